@@ -1,0 +1,3 @@
+pub mod Faults
+pub mod Questions
+pub mod Runs

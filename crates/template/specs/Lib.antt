@@ -1,0 +1,4 @@
+pub mod Cooked
+pub mod Escaped
+pub mod Grammar
+pub mod Raw

@@ -1,0 +1,5 @@
+// Template text: escaping, the raw reader, and cooking.
+mod raw;
+
+pub use raw::RawPart;
+pub use raw::RawReader;

@@ -1,0 +1,10 @@
+pub mod Calls
+pub mod Character
+pub mod Encoded
+pub mod Join
+pub mod Laws
+pub mod Points
+pub mod Reader
+pub mod Stored
+pub mod Survey
+pub mod Utf16

@@ -1,0 +1,50 @@
+ghost use mathlib.Core.Path.{_≡_};
+ghost use mathlib.Core.Bool.{false};
+ghost use Rattle.text.specs.Reader.{rest-of, led-of, Next};
+ghost use Rattle.text.specs.Utf16.{leading, trailing};
+use base::Fault;
+use super::Characters;
+use super::super::character::Character;
+use super::super::decode::first_character;
+
+// A leading surrogate, the first half of a pair.
+pub fn is_leading(code: u32) -> bool
+    ensures { λ r. ⌜ r ≡ leading code ⌝ }
+{
+    matches!(code, 0xD800..=0xDBFF)
+}
+
+// A trailing surrogate, the second half of a pair.
+pub fn is_trailing(code: u32) -> bool
+    ensures { λ r. ⌜ r ≡ trailing code ⌝ }
+{
+    matches!(code, 0xDC00..=0xDFFF)
+}
+
+impl<'a> Characters<'a> {
+    pub fn new(text: &'a [u8]) -> Characters<'a>
+        ensures rest { λ r. ⌜ rest-of r ≡ now (text .entry) ⌝ }
+        ensures led { λ r. ⌜ led-of r ≡ false ⌝ }
+    {
+        Characters { rest: text, led: false }
+    }
+
+    // The next character, or None at the end. A high-low pair in two characters is refused, as it is one in stored form.
+    pub fn next(&mut self) -> Result<Option<Character<'a>>, Fault>
+        ensures { λ r. ⌜ Next (now (self .entry)) (now (self .exit)) r ⌝ }
+    {
+        let text = self.rest;
+        if text.is_empty() {
+            return Ok(None);
+        }
+        let Some(c) = first_character(text) else {
+            return Err(Fault::Malformed);
+        };
+        if self.led && is_trailing(c.code) {
+            return Err(Fault::Malformed);
+        }
+        self.led = is_leading(c.code);
+        self.rest = &text[c.bytes.len()..];
+        Ok(Some(c))
+    }
+}
