@@ -91,7 +91,7 @@ not-single : (c : ℕ) → is-escape c ≡ false → is-single c ≡ false
 not-single c e = or-parts (is-single c) (is-decimal c) (or-parts (is-single c || is-decimal c) (eqb c 0x78) (or-parts (is-single c || is-decimal c || eqb c 0x78) (eqb c 0x75) e .0) .0) .0
 
 -- The digits of \u{...} are read up to its brace.
-digits-found : (ds rest : List ℕ) → HexDigits ds → digits-of (ds ++ 0x7D ∷ rest) ≡ Some ds
+pub digits-found : (ds rest : List ℕ) → HexDigits ds → digits-of (ds ++ 0x7D ∷ rest) ≡ Some ds
 digits-found [] rest h = refl
 digits-found (d ∷ ds) rest h = cond-true (is-hex d) _ _ (h .0) ∙ ap (push d) (digits-found ds rest (h .1))
 

@@ -11,6 +11,7 @@ use Rattle.std.specs.shelf.Lists.{All}
 use Rattle.std.proofs.shelf.Tests.{eqb-true, ne-eqb, and-right, cases-bool, cases-lt, cond-false, cond-both}
 use Rattle.std.proofs.shelf.Text.{encode-ascii}
 use Rattle.text.specs.Utf16.{utf16, units}
+use Rattle.template.specs.Lines.{normal}
 use Rattle.template.specs.Grammar.{TemplateCharacter, dollar, escape, continuation, line-end, other, lf, cr, ls, ps, crlf, source, sources, value, values, Allowed, AllAllowed, starts}
 
 -- The line end LF.
@@ -60,11 +61,11 @@ plain-cases P d l s p c o =
     (λ z. at-numeral P c 0x2029 (line-end ps) _ p (o x y z))))
 
 -- A plain character is its own source.
-plain-source : (c : ℕ) → source (plain c) ≡ c ∷ []
+pub plain-source : (c : ℕ) → source (plain c) ≡ c ∷ []
 plain-source c = plain-cases (λ d t. source t ≡ d ∷ []) refl refl refl refl c (λ _ _ _ _. refl)
 
 -- Its value is its units.
-plain-value : (c : ℕ) → value (plain c) ≡ utf16 c
+pub plain-value : (c : ℕ) → value (plain c) ≡ utf16 c
 plain-value c = plain-cases (λ d t. value t ≡ utf16 d) refl refl refl refl c (λ _ _ _ _. refl)
 
 -- It is the line end LF only where it is LF.
@@ -117,7 +118,7 @@ Plain [] rest = Unit {0}
 Plain (c ∷ cs) rest = (scalar c ≡ true) × (eqb c 0x60 ≡ false) × (eqb c 0x5C ≡ false) × (eqb c 0x24 ≡ true → starts (λ d. eqb d 0x7B) (cs ++ rest) ≡ false) × Plain cs rest
 
 -- A plain character is allowed, where $ is not before {.
-plain-allowed : (c : ℕ) (rest : List ℕ) → scalar c ≡ true → eqb c 0x60 ≡ false → eqb c 0x5C ≡ false → (eqb c 0x24 ≡ true → starts (λ d. eqb d 0x7B) rest ≡ false) → eqb c 0x0D ≡ false → Allowed (plain c) rest
+pub plain-allowed : (c : ℕ) (rest : List ℕ) → scalar c ≡ true → eqb c 0x60 ≡ false → eqb c 0x5C ≡ false → (eqb c 0x24 ≡ true → starts (λ d. eqb d 0x7B) rest ≡ false) → eqb c 0x0D ≡ false → Allowed (plain c) rest
 plain-allowed c rest =
     plain-cases (λ c t. scalar c ≡ true → eqb c 0x60 ≡ false → eqb c 0x5C ≡ false → (eqb c 0x24 ≡ true → starts (λ d. eqb d 0x7B) rest ≡ false) → eqb c 0x0D ≡ false → Allowed t rest)
     (λ _ _ _ h _. h refl) (λ _ _ _ _ _. tt) (λ _ _ _ _ _. tt) (λ _ _ _ _ _. tt) c
@@ -137,13 +138,8 @@ run-allowed cs rest h end =
     (λ cs k p. (tt, k (p .4 .4)))
     cs h
 
--- Line ends as LF; the flag says that the character before was CR.
-abbrev pub normal : Bool → List ℕ → List ℕ
-normal b [] = []
-normal b (c ∷ cs) = cond (eqb c 0x0D) (0x0A ∷ normal true cs) (cond (b && eqb c 0x0A) (normal false cs) (c ∷ normal false cs))
-
 -- After CR only an LF is left out.
-normal-after : (cs : List ℕ) → starts (λ c. eqb c 0x0A) cs ≡ false → normal true cs ≡ normal false cs
+pub normal-after : (cs : List ℕ) → starts (λ c. eqb c 0x0A) cs ≡ false → normal true cs ≡ normal false cs
 normal-after [] h = refl
 normal-after (c ∷ cs) h = ap (λ xs. cond (eqb c 0x0D) (0x0A ∷ normal true cs) xs) (cond-false (eqb c 0x0A) _ _ h)
 

@@ -1,4 +1,11 @@
+pub mod Building
+pub mod Calls
 pub mod Cooked
+pub mod Cooking
 pub mod Escaped
+pub mod Fronts
 pub mod Grammar
+pub mod Laws
+pub mod Lines
 pub mod Raw
+pub mod Tally

@@ -14,8 +14,8 @@ use Rattle.std.specs.declared.result.Result.{Result}
 use Rattle.std.specs.declared.result.Result.the-variants.{Ok, Err}
 use Rattle.base.specs.declared.fault.Fault.{Fault}
 use Rattle.base.specs.Questions.{Refuses}
-use Rattle.template.specs.Grammar.{LineEnd, Escape, TemplateCharacter, dollar, escape, continuation, line-end, other, escape-code, sources, AllAllowed, starts}
-use Rattle.template.specs.Cooked.{WellFormed}
+use Rattle.template.specs.Grammar.{LineEnd, Escape, TemplateCharacter, dollar, escape, continuation, line-end, other, escape-code, AllAllowed, starts}
+use Rattle.template.specs.Cooked.{Spells, WellFormed}
 use Rattle.template.specs.declared.raw.RawPart.{RawPart}
 use Rattle.template.specs.declared.raw.RawPart.the-variants.{Plain, Escaped, Continuation}
 use Rattle.template.specs.declared.raw.RawReader.{RawReader}
@@ -45,11 +45,11 @@ Holds (Plain bytes) rest ts = Unescaped ts × (0 < length ts) × ((rest ≡ []) 
 Holds (Escaped bytes code) rest ts = (e : Escape) × (ts ≡ escape e ∷ []) × (escape-code e ≡ code)
 Holds (Continuation bytes) rest ts = (l : LineEnd) × (ts ≡ continuation l ∷ [])
 
--- The part stands at the front of what is left in s, and t has what follows it, before which the part's
--- template characters may stand whatever that is.
+-- The part stands in front of the rest of what is left. It is well formed on its own, and in front of whatever
+-- code points the rest spells.
 abbrev pub Reads : RawPart → List ℕ → List ℕ → Type 0
 Reads part left rest =
-    (ts : List TemplateCharacter) × Holds part rest ts × (encodes (sources ts) ≡ part-bytes part) × (left ≡ part-bytes part ++ rest)
+    (ts : List TemplateCharacter) × Holds part rest ts × Spells (part-bytes part) ts × (left ≡ part-bytes part ++ rest)
     × ((cs : List ℕ) → encodes cs ≡ rest → AllAllowed ts cs)
 
 -- One step: the next part, the end, or a refusal where what is left is malformed.

@@ -1,4 +1,7 @@
 // Raw template text, read part by part.
+mod escapes;
+mod front;
+mod plain;
 pub mod steps;
 
 // A part of raw template text.

@@ -2,15 +2,16 @@
 use mathlib.Core.Path.{_≡_, refl, sym, ap, subst, _∙_}
 use mathlib.Core.List.{List, [], _∷_, _++_, append-assoc}
 use mathlib.Core.Bool.{Bool, true, false, _&&_}
-use mathlib.Core.Logic.{_⊎_, inl, inr}
+use mathlib.Core.Logic.{_⊎_, inl, inr, ⊎-elim}
 use Prim.Native.Nat.{ℕ, _+_, _-_, _≤_, _<_}
 use native.Mathlib.Omega.{arith}
 use lib.ListN.{length, take, drop, length-append}
 use lib.Seq.{take-at, drop-at}
 use lib.Utf8.{encode, encodes}
 use Rattle.std.proofs.shelf.Lists.{append-nil}
-use Rattle.std.proofs.shelf.Tests.{and-right}
+use Rattle.std.proofs.shelf.Tests.{and-right, and-cases, both-ways}
 use Rattle.std.proofs.shelf.Text.{cons-from-encodes, encodes-append}
+use Rattle.std.specs.Options.{Cases}
 use Rattle.std.specs.declared.option.Option.{Option}
 use Rattle.std.specs.declared.option.Option.the-variants.{Some, None}
 use Rattle.std.specs.declared.result.Result.{Result}
@@ -47,23 +48,26 @@ no-first left right cs (d ∷ ds) k e l f bad = absurd (bad d (encodes ds) (omeg
 first-point : (right ds : List ℕ) (h : Character) → encodes ds ≡ right → Reads right h → (es : List ℕ) × (ds ≡ h .code ∷ es) × (encodes es ≡ drop (length (encode (h .code))) right)
 first-point right ds h f r = cons-from-encodes ds (drop (length (encode (h .code))) right) (h .code) (f ∙ r .2)
 
-pub no-trail : (left right cs ds : List ℕ) (h : Character) → Canonical false cs → encodes cs ≡ left → Canonical false ds → encodes ds ≡ right → Reads right h → trailing (h .code) ≡ false → Meets left right (Ok None)
+no-trail : (left right cs ds : List ℕ) (h : Character) → Canonical false cs → encodes cs ≡ left → Canonical false ds → encodes ds ≡ right → Reads right h → trailing (h .code) ≡ false → Meets left right (Ok None)
 no-trail left right cs ds h k e l f r q =
     let p = first-point right ds h f r in
     let m = subst (Canonical false) (p .1) l in
     apart left right cs ds k e l f (subst (Canonical (ends false cs)) (sym (p .1)) (m .0, and-right (ends false cs) (trailing (h .code)) q, m .2))
 
-pub pair : (left right cs ds : List ℕ) (h : Character) (lead : ℕ) → Canonical false cs → encodes cs ≡ left → EndsWith (Some lead) cs → Canonical false ds → encodes ds ≡ right → Reads right h → trailing (h .code) ≡ true → Meets left right (Ok (Some (paired lead (h .code))))
-pair left right cs ds h lead k e w l f r q =
+-- Where the left text ends with a leading surrogate, the two meet as that and the right one's first code point do.
+pub met : (left right cs ds : List ℕ) (h : Character) (lead : ℕ) (o : Option ℕ) → Canonical false cs → encodes cs ≡ left → EndsWith (Some lead) cs → Canonical false ds → encodes ds ≡ right → Reads right h → Cases o ((leading lead && trailing (h .code)) ≡ false) (λ x. (leading lead ≡ true) × (trailing (h .code) ≡ true) × (x ≡ paired lead (h .code))) → Meets left right (Ok o)
+met left right cs ds h lead None k e w l f r q =
+    no-trail left right cs ds h k e l f r (⊎-elim (λ n. absurd (both-ways (leading lead) n (w .2))) (λ n. n) (and-cases (leading lead) (trailing (h .code)) q))
+met left right cs ds h lead (Some x) k e w l f r q =
     let p = first-point right ds h f r in
     (
       w .0,
       p .0,
       lead,
       h .code,
-      refl,
+      q .2,
       w .2,
-      q,
+      q .1,
       subst (Canonical false) (w .1) k,
       ap encodes (sym (w .1)) ∙ e,
       subst (Canonical false) (p .1) l,

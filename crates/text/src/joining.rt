@@ -6,7 +6,7 @@ use base::Fault;
 use base::append;
 use super::decode::first_character;
 use super::encoded::Encoded;
-use super::reader::steps::is_trailing;
+use super::surrogates::pair;
 use super::survey::walk;
 
 // The pair that two texts make where they meet: the left one ends with its first half, and the right one begins with
@@ -22,11 +22,7 @@ fn seam(left: &[u8], right: &[u8]) -> Result<Option<u32>, Fault>
     let Some(c) = first_character(right) else {
         return Ok(None);
     };
-    if is_trailing(c.code) {
-        Ok(Some((lead - 0xD800) * 0x400 + (c.code - 0xDC00) + 0x10000))
-    } else {
-        Ok(None)
-    }
+    Ok(pair(lead, c.code))
 }
 
 // Writes three runs, one behind the other, or refuses them all.

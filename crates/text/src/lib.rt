@@ -5,6 +5,7 @@ mod encoded;
 mod joining;
 mod laws;
 mod reader;
+mod surrogates;
 mod survey;
 mod units;
 
@@ -16,8 +17,8 @@ pub use joining::join;
 pub use laws::joining_stored_texts_joins_units;
 pub use laws::stored_form_and_units_determine_each_other;
 pub use reader::Characters;
-pub use reader::steps::is_leading;
-pub use reader::steps::is_trailing;
+pub use surrogates::leading_of;
+pub use surrogates::pair;
 pub use units::count_units;
 pub use units::is_lawful;
 pub use units::unit_at;

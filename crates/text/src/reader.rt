@@ -5,4 +5,4 @@ pub struct Characters<'a> {
     led: bool,
 }
 
-pub mod steps;
+mod steps;

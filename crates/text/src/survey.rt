@@ -10,7 +10,7 @@ ghost use Rattle.text.specs.Survey.{Surveyed};
 ghost use Rattle.text.specs.Utf16.{leading, utf16};
 use base::Fault;
 use super::reader::Characters;
-use super::reader::steps::is_leading;
+use super::surrogates::leading_of;
 
 // What is found: how many units a text has, the one at a place, and the leading surrogate that it ends with.
 #[derive(Clone, Copy)]
@@ -37,13 +37,6 @@ fn unit_of(code: u32, k: usize) -> u16
         (_, 0) => ((code - 0x10000) / 0x400 + 0xD800) as u16,
         _ => ((code - 0x10000) % 0x400 + 0xDC00) as u16,
     }
-}
-
-// A leading surrogate, or None.
-fn leading_of(code: u32) -> Option<u32>
-    ensures { λ r. ⌜ Cases r (leading code ≡ false) (λ h. (h ≡ code) × (leading code ≡ true)) ⌝ }
-{
-    if is_leading(code) { Some(code) } else { None }
 }
 
 // What is found once one more code point is read.

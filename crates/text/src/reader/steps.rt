@@ -1,25 +1,12 @@
 ghost use mathlib.Core.Path.{_≡_};
 ghost use mathlib.Core.Bool.{false};
 ghost use Rattle.text.specs.Reader.{rest-of, led-of, Next};
-ghost use Rattle.text.specs.Utf16.{leading, trailing};
 use base::Fault;
 use super::Characters;
 use super::super::character::Character;
 use super::super::decode::first_character;
-
-// A leading surrogate, the first half of a pair.
-pub fn is_leading(code: u32) -> bool
-    ensures { λ r. ⌜ r ≡ leading code ⌝ }
-{
-    matches!(code, 0xD800..=0xDBFF)
-}
-
-// A trailing surrogate, the second half of a pair.
-pub fn is_trailing(code: u32) -> bool
-    ensures { λ r. ⌜ r ≡ trailing code ⌝ }
-{
-    matches!(code, 0xDC00..=0xDFFF)
-}
+use super::super::surrogates::is_leading;
+use super::super::surrogates::is_trailing;
 
 impl<'a> Characters<'a> {
     pub fn new(text: &'a [u8]) -> Characters<'a>

@@ -1,6 +1,6 @@
-use mathlib.Core.Path.{sym, subst}
+use mathlib.Core.Path.{subst}
 use Rattle.text.specs.Survey.{EndsWith}
-use Rattle.text.proofs.Seams.{no-lead, no-first, no-trail, pair}
+use Rattle.text.proofs.Seams.{no-lead, no-first, met}
 use Rattle.text.proofs.joining.seam.Needs as need
 
 pub returns-in-rest : need.returns-in-rest
@@ -17,17 +17,10 @@ returns-in-rest-first-character c =
     no-first (c .args .left .now) (c .args .right .now) (a .0) (b .0) (a .1 .0) (a .1 .1) (b .1 .0) (b .1 .1)
     (c .in-rest-first-character .ensures tt)
 
-pub returns-then-is-trailing : need.returns-then-is-trailing
-returns-then-is-trailing c =
+pub returns : need.returns
+returns c =
     let a = c .in-Continue-before .ensures tt in
     let b = c .in-Continue-walk .ensures tt in
-    pair (c .args .left .now) (c .args .right .now) (a .0) (b .0) (c .in-Some-first-character .c) (c .in-Some .lead) (a .1 .0) (a .1 .1)
+    met (c .args .left .now) (c .args .right .now) (a .0) (b .0) (c .in-Some-first-character .c) (c .in-Some .lead) (c .pair .result) (a .1 .0) (a .1 .1)
     (subst (λ o. EndsWith o (a .0)) (c .in-Some .is) (a .1 .4)) (b .1 .0) (b .1 .1)
-    (c .in-Some-first-character .ensures tt) (sym (c .if-is-trailing .ensures tt))
-
-pub returns-else-is-trailing : need.returns-else-is-trailing
-returns-else-is-trailing c =
-    let a = c .in-Continue-before .ensures tt in
-    let b = c .in-Continue-walk .ensures tt in
-    no-trail (c .args .left .now) (c .args .right .now) (a .0) (b .0) (c .in-Some-first-character .c) (a .1 .0) (a .1 .1) (b .1 .0) (b .1 .1)
-    (c .in-Some-first-character .ensures tt) (sym (c .if-is-trailing .ensures tt))
+    (c .in-Some-first-character .ensures tt) (c .pair .ensures)
