@@ -1,0 +1,42 @@
+// The line protocol: a request on each line, and an answer to each.
+//
+//     escape HEX [ROOM]     the raw template text of a text
+//     cook HEX [ROOM]       the text that raw template text cooks to
+//
+// HEX is the text in lower-case hexadecimal, nothing at all where it is empty; ROOM is the size of the output in bytes.
+// The answer is `ok HEX`, `refused NUMBER layer LAYER node NODE`, or `malformed` where the line is no request.
+mod answer;
+mod hex;
+mod request;
+
+pub use answer::Answer;
+pub use answer::AnswerDisplay;
+pub use hex::Hex;
+pub use hex::HexDisplay;
+pub use request::Call;
+use request::Flaw;
+pub use request::Request;
+use std::alloc::AllocError;
+use std::alloc::Global;
+use std::io;
+use std::io::BufRead;
+use std::io::BufReader;
+
+// The answer to a line, which stands without its line feed.
+pub fn reply(heap: Global, line: &[u8]) -> Result<Answer, AllocError> {
+    match Request::parse(heap, line) {
+        Ok(request) => request.run(heap),
+        Err(Flaw::Malformed) => Ok(Answer::Malformed),
+        Err(Flaw::Memory) => Err(AllocError),
+    }
+}
+
+// Answers each line of standard input on standard output.
+pub fn serve(rt: &LibcRuntime) -> io::Result<()> {
+    let heap = rt.alloc();
+    for line in BufReader::new(rt.stdin()).split(heap, b'\n') {
+        let answer = reply(heap, line?.as_slice())?;
+        println!(rt, "{answer}")?;
+    }
+    Ok(())
+}
