@@ -2,7 +2,7 @@
 //
 // Writes crates/vectors/stdin, a command on each line, and crates/vectors/stdout, the answer to each.
 // What a raw text cooks to is what this JavaScript engine makes of it. The random texts come from a fixed
-// seed, so that every run writes the same files.
+// start, so that every run writes the same files.
 'use strict';
 const fs = require('fs');
 const path = require('path');
@@ -52,12 +52,12 @@ function escaped(text) {
   });
 }
 
-// ---- Chance, from a fixed seed (mulberry32) ----
+// ---- Chance, from a fixed start (mulberry32) ----
 
-let seed = 20260101;
+let state = 20260101;
 function below(n) {
-  seed = seed + 0x6d2b79f5 | 0;
-  let t = Math.imul(seed ^ seed >>> 15, 1 | seed);
+  state = state + 0x6d2b79f5 | 0;
+  let t = Math.imul(state ^ state >>> 15, 1 | state);
   t = t + Math.imul(t ^ t >>> 7, 61 | t) ^ t;
   return ((t ^ t >>> 14) >>> 0) % n;
 }

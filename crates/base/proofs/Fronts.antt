@@ -20,12 +20,11 @@ drop-front old run n h =
 pub front-more : {T : Type 0} (old run more mid new : List T) (at n : ℕ) → at ≡ length run → mid ≡ run ++ drop (length run) old → Appended mid at more new (Ok n) → (n ≡ length (run ++ more)) × (new ≡ (run ++ more) ++ drop (length (run ++ more)) old)
 front-more old run more mid new at n e f a =
     let long : n ≡ length (run ++ more) = omega (arith, a .0, length-append run more) in
-    let low : length run ≤ n = omega (arith, a .0) in
-    (
+    let low : length run ≤ n = omega (arith, a .0) in (
       long,
       a .2
-      ∙ ap (λ l. take at l ++ more ++ drop n l) f
-      ∙ ap (λ l. l ++ more ++ drop n (run ++ drop (length run) old)) (take-at run (drop (length run) old) at (sym e))
-      ∙ ap (λ l. run ++ more ++ l) (drop-front old run n low)
-      ∙ ap (λ m. run ++ more ++ drop m old) long,
+          ∙ ap (λ l. take at l ++ more ++ drop n l) f
+          ∙ ap (λ l. l ++ more ++ drop n (run ++ drop (length run) old)) (take-at run (drop (length run) old) at (sym e))
+          ∙ ap (λ l. run ++ more ++ l) (drop-front old run n low)
+          ∙ ap (λ m. run ++ more ++ drop m old) long,
     )

@@ -1,4 +1,5 @@
 pub mod Hex
-pub mod Words
 pub mod Lines
 pub mod Parts
+pub mod Runs
+pub mod Words

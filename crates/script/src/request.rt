@@ -1,8 +1,14 @@
 ghost use mathlib.Core.Path.{_≡_};
+ghost use Prim.Native.Nat.{_*_, min};
+ghost use lib.ListN.{length};
+ghost use Rattle.std.specs.Of.Vec.{vec-items};
+ghost use Rattle.template.specs.Calls.{Writes};
 ghost use Rattle.script.specs.declared.request.Flaw.the-variants.{Memory};
 ghost use Rattle.script.specs.Parts.{CallRead, RoomRead};
+ghost use Rattle.script.specs.Runs.{Means, form, Answers};
 use super::answer::Answer;
 use super::hex;
+use base::Fault;
 use std::alloc::AllocError;
 use std::alloc::Global;
 use std::alloc::Refused;
@@ -16,14 +22,23 @@ pub enum Call {
 }
 
 impl Call {
-    // What the call answers for a text, with an output of `room` bytes.
-    pub fn run(self, heap: Global, text: &[u8], room: usize) -> Result<Answer, AllocError> {
-        let mut out = vec![in heap; 0u8; room.min(most(text))]?;
-        let written = match self {
-            Call::Escape => template::escape(text, out.as_mut_slice()),
-            Call::Cook => template::cook(text, out.as_mut_slice()),
-        };
-        match written {
+    // Writes what the call makes of the text.
+    fn write(self, text: &[u8], out: &mut [u8]) -> Result<usize, Fault>
+        ensures { λ r. ⌜ Writes (Means self (now (text .entry))) (form self) (now (out .entry)) (now (out .exit)) r ⌝ }
+    {
+        match self {
+            Call::Escape => template::escape(text, out),
+            Call::Cook => template::cook(text, out),
+        }
+    }
+
+    // What the call answers for a text, with an output of `room` bytes. No call writes more than twice as many bytes as
+    // the text has, so a larger output is not made.
+    pub fn run(self, heap: Global, text: &[u8], room: usize) -> Result<Answer, AllocError>
+        ensures { λ r. ⌜ Answers self (now (text .entry)) (min room (2 * length (now (text .entry)))) r ⌝ }
+    {
+        let mut out = vec![in heap; 0u8; room.min(2 * text.len())]?;
+        match self.write(text, out.as_mut_slice()) {
             Ok(len) => {
                 out.truncate(len);
                 Ok(Answer::Text(out))
@@ -31,11 +46,6 @@ impl Call {
             Err(fault) => Ok(Answer::Refused(fault)),
         }
     }
-}
-
-// The bytes that are room enough for any call on the text: at most two for each of its own.
-pub fn most(text: &[u8]) -> usize {
-    text.len().saturating_mul(2)
 }
 
 // What a line asks for.
@@ -60,7 +70,7 @@ impl Request {
         let text = hex::bytes_of(heap, text.as_bytes())?;
         let room = match words.next() {
             Some(room) => room_of(room)?,
-            None => most(text.as_slice()),
+            None => usize::MAX,
         };
         match words.next() {
             Some(_) => Err(Flaw::Malformed),
@@ -68,7 +78,10 @@ impl Request {
         }
     }
 
-    pub fn run(&self, heap: Global) -> Result<Answer, AllocError> {
+    // What the library answers.
+    pub fn run(&self, heap: Global) -> Result<Answer, AllocError>
+        ensures { λ r. ⌜ Answers (now (self .entry) .call) (vec-items (now (self .entry) .text)) (min (now (self .entry) .room) (2 * length (vec-items (now (self .entry) .text)))) r ⌝ }
+    {
         self.call.run(heap, self.text.as_slice(), self.room)
     }
 }

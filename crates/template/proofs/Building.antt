@@ -38,24 +38,23 @@ adds-both old new done h l r same led p q put first us b =
     let t = trailing-range l q in
     let split : encodes (b .0) ≡ encodes cs ++ encode h = ap encodes (w .1) ∙ encodes-one cs h in
     let at : done .len - 3 ≡ length (encodes cs) =
-        omega (arith, b .3, ap length split, length-append (encodes cs) (encode h), lead-width h p)
+    omega (arith, b .3, ap length split, length-append (encodes cs) (encode h), lead-width h p)
     in
     let wide : length (encode x) ≡ 4 = ap length (encode-4 x (omega arith)) in
     let front = canonical-front false cs (h ∷ []) (subst (Canonical false) (w .1) (b .1)) in
-    let put′ : Put old (length (encodes cs)) (encode x) new r = subst (λ n. Put old n (encode x) new r) at put in
-    (
+    let put′ : Put old (length (encodes cs)) (encode x) new r = subst (λ n. Put old n (encode x) new r) at put in (
       cs ++ x ∷ [],
       canonical-append false cs (x ∷ []) front (omega arith, and-right (ends false cs) (trailing x) (not-trailing-above x (omega arith)), tt),
       units-push cs x
-      ∙ ap (λ v. units cs ++ v) (utf16-paired h l p q)
-      ∙ sym (append-assoc (units cs) (h ∷ []) (l ∷ []))
-      ∙ ap (λ v. units cs ++ v ++ l ∷ []) (sym (utf16-below h (omega arith)))
-      ∙ ap (λ v. v ++ l ∷ []) (sym (units-push cs h))
-      ∙ ap (λ v. v ++ l ∷ []) (ap units (sym (w .1)) ∙ b .2)
-      ∙ ap (λ v. us ++ v) (sym (utf16-below l (omega arith))),
+          ∙ ap (λ v. units cs ++ v) (utf16-paired h l p q)
+          ∙ sym (append-assoc (units cs) (h ∷ []) (l ∷ []))
+          ∙ ap (λ v. units cs ++ v ++ l ∷ []) (sym (utf16-below h (omega arith)))
+          ∙ ap (λ v. v ++ l ∷ []) (sym (units-push cs h))
+          ∙ ap (λ v. v ++ l ∷ []) (ap units (sym (w .1)) ∙ b .2)
+          ∙ ap (λ v. us ++ v) (sym (utf16-below l (omega arith))),
       omega (arith, put′ .0, ap length (encodes-one cs x), length-append (encodes cs) (encode x)),
       subst (Filled first new) (sym (encodes-one cs x))
-        (put-over first old new (encodes cs) (encode h) (encode x) r (b .6) (subst (Filled first old) split (b .4)) (omega (arith, lead-width h p)) put′),
+          (put-over first old new (encodes cs) (encode h) (encode x) r (b .6) (subst (Filled first old) split (b .4)) (omega (arith, lead-width h p)) put′),
       ends-push false cs x ∙ not-leading-above x (omega arith),
       same ∙ b .6,
     )
@@ -67,8 +66,7 @@ adds-pair old new done l x r same k put = adds-both old new done (k .0) l r same
 pub adds-one : (old new : List ℕ) (done : Cooked) (c r : ℕ) (lead : Option ℕ) → length new ≡ length old → c ≤ 0x10FFFF → ((cs : List ℕ) → EndsWith (done .lead) cs → (ends false cs && trailing c) ≡ false) → Cases lead (leading c ≡ false) (λ h. (h ≡ c) × (leading c ≡ true)) → Put old (done .len) (encode c) new r → Adds old new done (record { len = r; lead = lead }) (utf16 c)
 adds-one old new done c r lead same small apart led put first us b =
     let cs = b .0 in
-    let put′ : Put old (length (encodes cs)) (encode c) new r = subst (λ n. Put old n (encode c) new r) (b .3) put in
-    (
+    let put′ : Put old (length (encodes cs)) (encode c) new r = subst (λ n. Put old n (encode c) new r) (b .3) put in (
       cs ++ c ∷ [],
       canonical-append false cs (c ∷ []) (b .1) (small, apart cs (b .5), tt),
       units-push cs c ∙ ap (λ v. v ++ utf16 c) (b .2),
@@ -83,8 +81,8 @@ pub completes : (o : Option ℕ) (h c : ℕ) (r : Option ℕ) → o ≡ Some h �
 completes o h c (Some x) e k = (h, e, k .0, k .1, k .2)
 completes o h c None e k =
     λ cs w.
-      let v : EndsWith (Some h) cs = subst (λ p. EndsWith p cs) e w in
-      ap (λ b. b && trailing c) (ap (ends false) (v .1) ∙ ends-push false (v .0) h) ∙ k
+    let v : EndsWith (Some h) cs = subst (λ p. EndsWith p cs) e w in
+    ap (λ b. b && trailing c) (ap (ends false) (v .1) ∙ ends-push false (v .0) h) ∙ k
 
 pub apart-none : (o : Option ℕ) (c : ℕ) → o ≡ None → (cs : List ℕ) → EndsWith o cs → (ends false cs && trailing c) ≡ false
 apart-none o c e cs w = and-left (ends false cs) (trailing c) (subst (λ p. EndsWith p cs) e w)

@@ -61,18 +61,17 @@ cook-step raw left rest old mid new done more part w r adds short =
     let ts = w .0 in
     let us = r .0 in
     let all : encodes (sources (ts ++ us)) ≡ encodes (sources ts) ++ part-bytes part =
-        ap encodes (sources-append ts us) ∙ encodes-append (sources ts) (sources us) ∙ ap (λ l. encodes (sources ts) ++ l) (r .2 .1)
-    in
-    (
+    ap encodes (sources-append ts us) ∙ encodes-append (sources ts) (sources us) ∙ ap (λ l. encodes (sources ts) ++ l) (r .2 .1)
+    in (
       ts ++ us,
       ap (λ l. l ++ rest) all
-      ∙ append-assoc (encodes (sources ts)) (part-bytes part) rest
-      ∙ ap (λ l. encodes (sources ts) ++ l) (sym (r .3))
-      ∙ w .1,
+          ∙ append-assoc (encodes (sources ts)) (part-bytes part) rest
+          ∙ ap (λ l. encodes (sources ts) ++ l) (sym (r .3))
+          ∙ w .1,
       λ cs e.
-        all-allowed-append ts us cs
-        (w .2 (sources us ++ cs) (encodes-append (sources us) cs ∙ ap (λ l. l ++ encodes cs) (r .2 .1) ∙ ap (λ l. part-bytes part ++ l) e ∙ sym (r .3)))
-        (r .4 cs e),
+          all-allowed-append ts us cs
+          (w .2 (sources us ++ cs) (encodes-append (sources us) cs ∙ ap (λ l. l ++ encodes cs) (r .2 .1) ∙ ap (λ l. part-bytes part ++ l) e ∙ sym (r .3)))
+          (r .4 cs e),
       subst (Built old new more) (sym (values-append ts us)) (adds rest us (r .1) (r .2) old (values ts) (w .3)),
       omega (arith, w .4, short, ap length (r .3), length-append (part-bytes part) rest),
     )
@@ -108,8 +107,7 @@ cook-finish raw rest old out done w none =
     let ts = w .0 in
     let b = w .3 in
     let whole : encodes (sources ts) ≡ raw = sym (append-nil (encodes (sources ts))) ∙ ap (λ l. encodes (sources ts) ++ l) (sym none) ∙ w .1 in
-    let form : encodes (b .0) ≡ stored (values ts) = ap encodes (sym (points-units false (b .0) (b .1))) ∙ ap stored (b .2) in
-    (
+    let form : encodes (b .0) ≡ stored (values ts) = ap encodes (sym (points-units false (b .0) (b .1))) ∙ ap stored (b .2) in (
       values ts,
       (ts, (w .2 [] (sym none), whole), refl),
       b .3 ∙ ap length form,

@@ -30,8 +30,8 @@ pub escaped-part : (old new : List ℕ) (done more : Cooked) (part : RawPart) (b
 escaped-part old new done more part bytes code e a =
     subst (AddsPart old new done more) (sym e)
     (λ rest ts h s.
-      let value : utf16 code ≡ values ts = ap utf16 (sym (h .2)) ∙ sym (append-nil (utf16 (escape-code (h .0)))) ∙ ap values (sym (h .1)) in
-      subst (Adds old new done more) value a)
+    let value : utf16 code ≡ values ts = ap utf16 (sym (h .2)) ∙ sym (append-nil (utf16 (escape-code (h .0)))) ∙ ap values (sym (h .1)) in
+    subst (Adds old new done more) value a)
 
 pub escaped-fits : (part : RawPart) (bytes : RefT (List ℕ)) (code : ℕ) → part ≡ Escaped bytes code → Stands part → (code ≤ 0x10FFFF) × (2 ≤ length (part-bytes part))
 escaped-fits part bytes code e s =
@@ -41,8 +41,7 @@ escaped-fits part bytes code e s =
     let one : ts ≡ escape x ∷ [] = at .2 .1 in
     let allowed : AllAllowed (escape x ∷ []) [] = subst (λ l. AllAllowed l []) one (at .3 .0) in
     let spelt : length (encodes (sources (escape x ∷ []))) ≡ length (part-bytes part) = ap (λ l. length (encodes (sources l))) (sym one) ∙ ap length (at .3 .1) ∙ ap (λ p. length (part-bytes p)) (sym e) in
-    let long = escape-long x in
-    (
+    let long = escape-long x in (
       omega (arith, escape-small x [] (allowed .0), at .2 .2),
       omega (arith, spelt, ap (λ l. length (encodes l)) (append-nil (0x5C ∷ escape-source x))),
     )

@@ -14,15 +14,14 @@ use Rattle.template.proofs.Tallying.{put-more}
 
 -- One piece more behind what was written.
 pub grows-put : (old mid new w more : List ℕ) (at len r : ℕ) → Grows old at w mid len → length new ≡ length mid → Put mid len more new r → Grows old at (w ++ more) new r
-grows-put old mid new w more at len r g same put =
-    (
-      omega (arith, put .0, g .0, length-append w more),
-      same ∙ g .1,
-      λ first written e long filled.
-        let here : len ≡ length (written ++ w) = omega (arith, g .0, length-append written w) in
-        subst (Filled first new) (append-assoc written w more)
-        (put-more first mid new (written ++ w) more r (g .1 ∙ long) (g .2 first written e long filled) (subst (λ n. Put mid n more new r) here put)),
-    )
+grows-put old mid new w more at len r g same put = (
+  omega (arith, put .0, g .0, length-append w more),
+  same ∙ g .1,
+  λ first written e long filled.
+      let here : len ≡ length (written ++ w) = omega (arith, g .0, length-append written w) in
+      subst (Filled first new) (append-assoc written w more)
+      (put-more first mid new (written ++ w) more r (g .1 ∙ long) (g .2 first written e long filled) (subst (λ n. Put mid n more new r) here put)),
+)
 
 -- What was put, under other names.
 pub put-as : (old new last more : List ℕ) (at r end : ℕ) → new ≡ last → r ≡ end → Put old at more last end → Put old at more new r
@@ -41,15 +40,14 @@ module _ (old run : List ℕ) (at : ℕ) (out : List ℕ) (len : ℕ) (after-cr 
   lined-cr new r e same put =
       let w = inv .0 in
       let next : normal after-cr (drop k run) ≡ 10 ∷ normal true (drop (k + 1) run) =
-          ap (normal after-cr) left ∙ cond-true (eqb b 13) _ _ (eq-eqb b 13 e)
-      in
-      (
+      ap (normal after-cr) left ∙ cond-true (eqb b 13) _ _ (eq-eqb b 13 e)
+      in (
         w ++ 10 ∷ [],
         grows-put old out new w (10 ∷ []) at len r (inv .1) same put,
         ap (λ t. w ++ 10 ∷ [] ++ normal t (drop (k + 1) run)) (eq-eqb b 13 e)
-        ∙ append-assoc w (10 ∷ []) (normal true (drop (k + 1) run))
-        ∙ ap (λ l. w ++ l) (sym next)
-        ∙ inv .2,
+            ∙ append-assoc w (10 ∷ []) (normal true (drop (k + 1) run))
+            ∙ ap (λ l. w ++ l) (sym next)
+            ∙ inv .2,
         omega (arith, put .0, inv .3),
       )
 
@@ -58,11 +56,10 @@ module _ (old run : List ℕ) (at : ℕ) (out : List ℕ) (len : ℕ) (after-cr 
       let w = inv .0 in
       let not-cr : eqb b 13 ≡ false = ne-eqb b 13 (λ f. omega arith) in
       let next : normal after-cr (drop k run) ≡ normal false (drop (k + 1) run) =
-          ap (normal after-cr) left
-          ∙ cond-false (eqb b 13) _ _ not-cr
-          ∙ cond-true (after-cr && eqb b 10) _ _ (and-from after-cr (eqb b 10) cr (eq-eqb b 10 e))
-      in
-      (
+      ap (normal after-cr) left
+      ∙ cond-false (eqb b 13) _ _ not-cr
+      ∙ cond-true (after-cr && eqb b 10) _ _ (and-from after-cr (eqb b 10) cr (eq-eqb b 10 e))
+      in (
         w,
         subst (λ l. Grows old at w l r) (sym same) (subst (λ n. Grows old at w out n) (sym stays) (inv .1)),
         ap (λ t. w ++ normal t (drop (k + 1) run)) not-cr ∙ ap (λ l. w ++ l) (sym next) ∙ inv .2,
@@ -74,15 +71,14 @@ module _ (old run : List ℕ) (at : ℕ) (out : List ℕ) (len : ℕ) (after-cr 
       let w = inv .0 in
       let not-cr : eqb b 13 ≡ false = ne-eqb b 13 no-cr in
       let next : normal after-cr (drop k run) ≡ b ∷ normal false (drop (k + 1) run) =
-          ap (normal after-cr) left ∙ cond-false (eqb b 13) _ _ not-cr ∙ cond-false (after-cr && eqb b 10) _ _ no-lf
-      in
-      (
+      ap (normal after-cr) left ∙ cond-false (eqb b 13) _ _ not-cr ∙ cond-false (after-cr && eqb b 10) _ _ no-lf
+      in (
         w ++ b ∷ [],
         grows-put old out new w (b ∷ []) at len r (inv .1) same put,
         ap (λ t. w ++ b ∷ [] ++ normal t (drop (k + 1) run)) not-cr
-        ∙ append-assoc w (b ∷ []) (normal false (drop (k + 1) run))
-        ∙ ap (λ l. w ++ l) (sym next)
-        ∙ inv .2,
+            ∙ append-assoc w (b ∷ []) (normal false (drop (k + 1) run))
+            ∙ ap (λ l. w ++ l) (sym next)
+            ∙ inv .2,
         omega (arith, put .0, inv .3),
       )
 

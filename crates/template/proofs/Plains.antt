@@ -29,9 +29,9 @@ use Rattle.template.proofs.Runs.{normal-after, normal-encodes}
 scalar-quiet : (c : ℕ) → scalar c ≡ true → (leading c ≡ false) × (trailing c ≡ false) × (c ≤ 0x10FFFF)
 scalar-quiet c e =
     ⊎-elim
-      (λ h. (not-leading-below c h, not-trailing-below c (omega arith), omega arith))
-      (λ h. (not-leading-above c (omega arith), not-trailing-above c (h .0), omega arith))
-      (scalar-cases c e)
+    (λ h. (not-leading-below c h, not-trailing-below c (omega arith), omega arith))
+    (λ h. (not-leading-above c (omega arith), not-trailing-above c (h .0), omega arith))
+    (scalar-cases c e)
 
 scalars-canonical : (led : Bool) (cs : List ℕ) → scalars cs ≡ true → Canonical led cs
 scalars-canonical led [] e = tt
@@ -58,8 +58,8 @@ normal-scalars b (c ∷ cs) e =
     cond-both (eqb c 0x0D) _ _ (λ l. scalars l ≡ true)
     (λ _. normal-scalars true cs (p .1))
     (λ _. cond-both (b && eqb c 0x0A) _ _ (λ l. scalars l ≡ true)
-      (λ _. normal-scalars false cs (p .1))
-      (λ _. and-from (scalar c) (scalars (normal false cs)) (p .0) (normal-scalars false cs (p .1))))
+    (λ _. normal-scalars false cs (p .1))
+    (λ _. and-from (scalar c) (scalars (normal false cs)) (p .0) (normal-scalars false cs (p .1))))
 
 -- No line end becomes longer, and a run does not vanish.
 pub normal-short : (b : Bool) (cs : List ℕ) → length (normal b cs) ≤ length cs
@@ -128,8 +128,7 @@ adds-plain old new run done ts r u some s g first us b =
     let ds = normal false (sources ts) in
     let quiet : scalars ds ≡ true = normal-scalars false (sources ts) (unescaped-scalars ts u (s .0)) in
     let bytes : normal false run ≡ encodes ds = ap (normal false) (sym (s .1)) ∙ normal-encodes false (sources ts) in
-    let whole : encodes (cs ++ ds) ≡ encodes cs ++ normal false run = encodes-append cs ds ∙ ap (λ l. encodes cs ++ l) (sym bytes) in
-    (
+    let whole : encodes (cs ++ ds) ≡ encodes cs ++ normal false run = encodes-append cs ds ∙ ap (λ l. encodes cs ++ l) (sym bytes) in (
       cs ++ ds,
       canonical-append false cs ds (b .1) (scalars-canonical (ends false cs) ds quiet),
       units-append cs ds ∙ ap (λ l. l ++ units ds) (b .2) ∙ ap (λ l. us ++ l) (sym (unescaped-values ts u (s .0))),

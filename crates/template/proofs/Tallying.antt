@@ -37,8 +37,7 @@ put-more old mid new w more r same filled put =
 pub both : (Means : List ℕ → Type 0) (form : List ℕ → List ℕ) → ((us vs : List ℕ) → Means us → Means vs → us ≡ vs) → (none old new : List ℕ) (need : ℕ) (r : Result ℕ Fault) → Walks Means form [] none (Ok need) → need ≤ length old → Walks Means form old new r → Writes Means form old new r
 both Means form once none old new need (Ok n) measured fits wrote =
     let same = once (measured .0) (wrote .0) (measured .1) (wrote .1) in
-    let long : n ≡ need = wrote .2 ∙ ap (λ us. length (form us)) (sym same) ∙ sym (measured .2) in
-    (
+    let long : n ≡ need = wrote .2 ∙ ap (λ us. length (form us)) (sym same) ∙ sym (measured .2) in (
       wrote .0,
       wrote .1,
       wrote .2,

@@ -15,8 +15,8 @@ four-digits u = digitChar (u / 0x1000) ∷ digitChar (u / 0x100 % 16) ∷ digitC
 abbrev pub escaped : ℕ → List ℕ
 escaped c =
     cond (eqb c 0x5C || eqb c 0x60 || eqb c 0x24) (0x5C ∷ c ∷ [])
-      (cond (eqb c 0x0D) (0x5C ∷ 0x72 ∷ [])
-        (cond (leading c || trailing c) (0x5C ∷ 0x75 ∷ four-digits c) (c ∷ [])))
+    (cond (eqb c 0x0D) (0x5C ∷ 0x72 ∷ [])
+    (cond (leading c || trailing c) (0x5C ∷ 0x75 ∷ four-digits c) (c ∷ [])))
 
 abbrev pub escapes : List ℕ → List ℕ
 escapes [] = []

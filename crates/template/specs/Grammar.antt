@@ -76,11 +76,11 @@ is-single c = eqb c 0x27 || eqb c 0x22 || eqb c 0x5C || eqb c 0x62 || eqb c 0x66
 abbrev pub single-value : ℕ → ℕ
 single-value c =
     cond (eqb c 0x62) 0x0008
-      (cond (eqb c 0x74) 0x0009
-        (cond (eqb c 0x6E) 0x000A
-          (cond (eqb c 0x76) 0x000B
-            (cond (eqb c 0x66) 0x000C
-              (cond (eqb c 0x72) 0x000D c)))))
+    (cond (eqb c 0x74) 0x0009
+    (cond (eqb c 0x6E) 0x000A
+    (cond (eqb c 0x76) 0x000B
+    (cond (eqb c 0x66) 0x000C
+    (cond (eqb c 0x72) 0x000D c)))))
 
 -- EscapeCharacter: a SingleEscapeCharacter, a DecimalDigit, x or u
 abbrev pub is-escape : ℕ → Bool

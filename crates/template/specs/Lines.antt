@@ -9,4 +9,4 @@ abbrev pub normal : Bool → List ℕ → List ℕ
 normal after-cr [] = []
 normal after-cr (c ∷ cs) =
     cond (eqb c 0x0D) (0x0A ∷ normal true cs)
-      (cond (after-cr && eqb c 0x0A) (normal false cs) (c ∷ normal false cs))
+    (cond (after-cr && eqb c 0x0A) (normal false cs) (c ∷ normal false cs))

@@ -56,8 +56,14 @@ fn push(out: &mut [u8], done: Cooked, code: u32) -> Cooked
     ensures short { λ r. ⌜ r .len ≤ done .len + 4 ⌝ }
 {
     match completed(done.lead, code) {
-        Some(both) => Cooked { len: put_character(out, done.len - 3, both), lead: None },
-        None => Cooked { len: put_character(out, done.len, code), lead: leading_of(code) },
+        Some(both) => Cooked {
+            len: put_character(out, done.len - 3, both),
+            lead: None,
+        },
+        None => Cooked {
+            len: put_character(out, done.len, code),
+            lead: leading_of(code),
+        },
     }
 }
 
@@ -88,7 +94,10 @@ fn cook_part(out: &mut [u8], done: Cooked, part: RawPart<'_>) -> Cooked
     ensures short { λ r. ⌜ r .len ≤ done .len + 2 * length (part-bytes (part .entry)) ⌝ }
 {
     match part {
-        RawPart::Plain(run) => Cooked { len: put_lines(out, done.len, run), lead: None },
+        RawPart::Plain(run) => Cooked {
+            len: put_lines(out, done.len, run),
+            lead: None,
+        },
         RawPart::Escaped(_, code) => push(out, done, code),
         RawPart::Continuation(_) => done,
     }

@@ -78,19 +78,19 @@ canonical-plain led (c ∷ cs) k = (k .0, refl, k .2)
 points-of-one : (c : ℕ) (cs us : List ℕ) → c ≤ 0x10FFFF → Canonical (leading c) cs → points us ≡ cs → points (utf16 c ++ us) ≡ c ∷ cs
 points-of-one c cs us h k e =
     ⊎-elim
-      (λ small. ap (λ l. points (l ++ us)) (utf16-below c small) ∙ ap (before c) e ∙ before-apart c cs k)
-      (λ large.
-        let x : ℕ = (c - 0x10000) / 0x400 + 0xD800 in
-        let y : ℕ = (c - 0x10000) % 0x400 + 0xDC00 in
-        let lead : leading x ≡ true = is-leading x (omega arith) (omega arith) in
-        let trail : trailing y ≡ true = is-trailing y (omega arith) (omega arith) in
-        let same : paired x y ≡ c = omega arith in
-        ap (λ l. points (l ++ us)) (utf16-above c large)
-        ∙ ap (λ l. before x (before y l)) e
-        ∙ ap (before x) (before-plain y cs (not-leading-above y (omega arith)))
-        ∙ before-pair x y cs lead trail
-        ∙ ap (λ d. d ∷ cs) same)
-      (cases-lt c 0x10000)
+    (λ small. ap (λ l. points (l ++ us)) (utf16-below c small) ∙ ap (before c) e ∙ before-apart c cs k)
+    (λ large.
+    let x : ℕ = (c - 0x10000) / 0x400 + 0xD800 in
+    let y : ℕ = (c - 0x10000) % 0x400 + 0xDC00 in
+    let lead : leading x ≡ true = is-leading x (omega arith) (omega arith) in
+    let trail : trailing y ≡ true = is-trailing y (omega arith) (omega arith) in
+    let same : paired x y ≡ c = omega arith in
+    ap (λ l. points (l ++ us)) (utf16-above c large)
+    ∙ ap (λ l. before x (before y l)) e
+    ∙ ap (before x) (before-plain y cs (not-leading-above y (omega arith)))
+    ∙ before-pair x y cs lead trail
+    ∙ ap (λ d. d ∷ cs) same)
+    (cases-lt c 0x10000)
 
 pub points-units : (led : Bool) (cs : List ℕ) → Canonical led cs → points (units cs) ≡ cs
 points-units led [] k = refl
@@ -103,9 +103,9 @@ text-append (u ∷ us) vs p q = (p .0, text-append us vs (p .1) q)
 text-one : (c : ℕ) → c ≤ 0x10FFFF → Text (utf16 c)
 text-one c h =
     ⊎-elim
-      (λ small. subst Text (sym (utf16-below c small)) (small, tt))
-      (λ large. subst Text (sym (utf16-above c large)) (omega arith, (omega arith, tt)))
-      (cases-lt c 0x10000)
+    (λ small. subst Text (sym (utf16-below c small)) (small, tt))
+    (λ large. subst Text (sym (utf16-above c large)) (omega arith, (omega arith, tt)))
+    (cases-lt c 0x10000)
 
 pub text-units : (led : Bool) (cs : List ℕ) → Canonical led cs → Text (units cs)
 text-units led [] k = tt
@@ -116,21 +116,21 @@ text-units led (c ∷ cs) k = text-append (utf16 c) (units cs) (text-one c (k .0
 pair-or-apart : (u c : ℕ) (cs : List ℕ) → ((leading u ≡ true) × (trailing c ≡ true) × (before u (c ∷ cs) ≡ paired u c ∷ cs)) ⊎ (((leading u && trailing c) ≡ false) × (before u (c ∷ cs) ≡ u ∷ c ∷ cs))
 pair-or-apart u c cs =
     ⊎-elim
-      (λ both. let p = and-parts (leading u) (trailing c) both in inl (p .0, p .1, before-pair u c cs (p .0) (p .1)))
-      (λ apart. inr (apart, cond-false (leading u && trailing c) _ _ apart))
-      (cases-bool (leading u && trailing c))
+    (λ both. let p = and-parts (leading u) (trailing c) both in inl (p .0, p .1, before-pair u c cs (p .0) (p .1)))
+    (λ apart. inr (apart, cond-false (leading u && trailing c) _ _ apart))
+    (cases-bool (leading u && trailing c))
 
 units-before : (u : ℕ) (cs : List ℕ) → u < 0x10000 → units (before u cs) ≡ u ∷ units cs
 units-before u [] h = ap (λ l. l ++ []) (utf16-below u h)
 units-before u (c ∷ cs) h =
     ⊎-elim
-      (λ p.
-        let q = trailing-range c (p .1) in
-        ap units (p .2)
-        ∙ ap (λ l. l ++ units cs) (utf16-paired u c (p .0) (p .1))
-        ∙ ap (λ l. u ∷ (l ++ units cs)) (sym (utf16-below c (omega arith))))
-      (λ p. ap units (p .1) ∙ ap (λ l. l ++ units (c ∷ cs)) (utf16-below u h))
-      (pair-or-apart u c cs)
+    (λ p.
+    let q = trailing-range c (p .1) in
+    ap units (p .2)
+    ∙ ap (λ l. l ++ units cs) (utf16-paired u c (p .0) (p .1))
+    ∙ ap (λ l. u ∷ (l ++ units cs)) (sym (utf16-below c (omega arith))))
+    (λ p. ap units (p .1) ∙ ap (λ l. l ++ units (c ∷ cs)) (utf16-below u h))
+    (pair-or-apart u c cs)
 
 pub units-points : (us : List ℕ) → Text us → units (points us) ≡ us
 units-points [] t = refl
@@ -140,13 +140,13 @@ canonical-before : (u : ℕ) (cs : List ℕ) → u < 0x10000 → Canonical false
 canonical-before u [] h k = (omega arith, refl, tt)
 canonical-before u (c ∷ cs) h k =
     ⊎-elim
-      (λ p.
-        let a = leading-range u (p .0) in
-        let b = trailing-range c (p .1) in
-        let quiet : leading c ≡ leading (paired u c) = not-leading-above c (omega arith) ∙ sym (not-leading-above (paired u c) (omega arith)) in
-        subst (Canonical false) (sym (p .2)) (omega arith, refl, subst (λ led. Canonical led cs) quiet (k .2)))
-      (λ p. subst (Canonical false) (sym (p .1)) (omega arith, refl, (k .0, p .0, k .2)))
-      (pair-or-apart u c cs)
+    (λ p.
+    let a = leading-range u (p .0) in
+    let b = trailing-range c (p .1) in
+    let quiet : leading c ≡ leading (paired u c) = not-leading-above c (omega arith) ∙ sym (not-leading-above (paired u c) (omega arith)) in
+    subst (Canonical false) (sym (p .2)) (omega arith, refl, subst (λ led. Canonical led cs) quiet (k .2)))
+    (λ p. subst (Canonical false) (sym (p .1)) (omega arith, refl, (k .0, p .0, k .2)))
+    (pair-or-apart u c cs)
 
 pub canonical-points : (us : List ℕ) → Text us → Canonical false (points us)
 canonical-points [] t = tt

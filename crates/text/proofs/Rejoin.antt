@@ -18,18 +18,18 @@ use Rattle.text.proofs.Pairing.{leading-range, trailing-range, not-leading-abo
 before-more : (u c : ℕ) (cs ds : List ℕ) → before u (c ∷ (cs ++ ds)) ≡ before u (c ∷ cs) ++ ds
 before-more u c cs ds =
     ⊎-elim
-      (λ t. cond-true (leading u && trailing c) _ _ t ∙ ap (λ l. l ++ ds) (sym (cond-true (leading u && trailing c) (paired u c ∷ cs) (u ∷ c ∷ cs) t)))
-      (λ f. cond-false (leading u && trailing c) _ _ f ∙ ap (λ l. l ++ ds) (sym (cond-false (leading u && trailing c) (paired u c ∷ cs) (u ∷ c ∷ cs) f)))
-      (cases-bool (leading u && trailing c))
+    (λ t. cond-true (leading u && trailing c) _ _ t ∙ ap (λ l. l ++ ds) (sym (cond-true (leading u && trailing c) (paired u c ∷ cs) (u ∷ c ∷ cs) t)))
+    (λ f. cond-false (leading u && trailing c) _ _ f ∙ ap (λ l. l ++ ds) (sym (cond-false (leading u && trailing c) (paired u c ∷ cs) (u ∷ c ∷ cs) f)))
+    (cases-bool (leading u && trailing c))
 
 -- A text with a unit has a code point.
 some-point : (u : ℕ) (cs : List ℕ) → (c : ℕ) × (ds : List ℕ) × (before u cs ≡ c ∷ ds)
 some-point u [] = (u, [], refl)
 some-point u (c ∷ cs) =
     ⊎-elim
-      (λ t. (paired u c, cs, cond-true (leading u && trailing c) _ _ t))
-      (λ f. (u, c ∷ cs, cond-false (leading u && trailing c) _ _ f))
-      (cases-bool (leading u && trailing c))
+    (λ t. (paired u c, cs, cond-true (leading u && trailing c) _ _ t))
+    (λ f. (u, c ∷ cs, cond-false (leading u && trailing c) _ _ f))
+    (cases-bool (leading u && trailing c))
 
 -- A unit before a text that it makes no pair with.
 before-apart : (u : ℕ) (vs : List ℕ) → (leading u && begins-trailing vs) ≡ false → before u (points vs) ≡ u ∷ points vs
@@ -40,15 +40,15 @@ before-apart u (v ∷ vs) e = ⊎-elim (before-plain u (before v (points vs))) (
     first v [] t = cond-false (leading u && trailing v) _ _ (and-right (leading u) (trailing v) t)
     first v (c ∷ cs) t =
         ⊎-elim
-          (λ p.
-            ap (before u) (cond-true (leading v && trailing c) _ _ p)
-            ∙ cond-false (leading u && trailing (paired v c)) _ _ (and-right (leading u) (trailing (paired v c)) (not-trailing-above (paired v c) (omega arith)))
-            ∙ ap (λ l. u ∷ l) (sym (cond-true (leading v && trailing c) (paired v c ∷ cs) (v ∷ c ∷ cs) p)))
-          (λ p.
-            ap (before u) (cond-false (leading v && trailing c) _ _ p)
-            ∙ cond-false (leading u && trailing v) _ _ (and-right (leading u) (trailing v) t)
-            ∙ ap (λ l. u ∷ l) (sym (cond-false (leading v && trailing c) (paired v c ∷ cs) (v ∷ c ∷ cs) p)))
-          (cases-bool (leading v && trailing c))
+        (λ p.
+        ap (before u) (cond-true (leading v && trailing c) _ _ p)
+        ∙ cond-false (leading u && trailing (paired v c)) _ _ (and-right (leading u) (trailing (paired v c)) (not-trailing-above (paired v c) (omega arith)))
+        ∙ ap (λ l. u ∷ l) (sym (cond-true (leading v && trailing c) (paired v c ∷ cs) (v ∷ c ∷ cs) p)))
+        (λ p.
+        ap (before u) (cond-false (leading v && trailing c) _ _ p)
+        ∙ cond-false (leading u && trailing v) _ _ (and-right (leading u) (trailing v) t)
+        ∙ ap (λ l. u ∷ l) (sym (cond-false (leading v && trailing c) (paired v c ∷ cs) (v ∷ c ∷ cs) p)))
+        (cases-bool (leading v && trailing c))
 
 points-append : (us vs : List ℕ) → (ends false us && begins-trailing vs) ≡ false → points (us ++ vs) ≡ points us ++ points vs
 points-append [] vs e = refl

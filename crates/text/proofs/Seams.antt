@@ -59,8 +59,7 @@ pub met : (left right cs ds : List ℕ) (h : Character) (lead : ℕ) (o : Option
 met left right cs ds h lead None k e w l f r q =
     no-trail left right cs ds h k e l f r (⊎-elim (λ n. absurd (both-ways (leading lead) n (w .2))) (λ n. n) (and-cases (leading lead) (trailing (h .code)) q))
 met left right cs ds h lead (Some x) k e w l f r q =
-    let p = first-point right ds h f r in
-    (
+    let p = first-point right ds h f r in (
       w .0,
       p .0,
       lead,
@@ -101,12 +100,12 @@ joins-apart left right old new r (cs, ds, k, e, l, f) w =
     (stores-points left cs (canonical-front false cs ds k) e)
     (stores-points right ds l f)
     (
-      ap (λ us. encodes (points us)) (sym (units-append cs ds))
-      ∙ ap encodes (points-units false (cs ++ ds) k)
-      ∙ encodes-append cs ds
-      ∙ ap (λ x. x ++ encodes ds) e
-      ∙ ap (λ x. left ++ x) f
-      ∙ ap (λ x. x ++ right) (sym (append-nil left))
+    ap (λ us. encodes (points us)) (sym (units-append cs ds))
+    ∙ ap encodes (points-units false (cs ++ ds) k)
+    ∙ encodes-append cs ds
+    ∙ ap (λ x. x ++ encodes ds) e
+    ∙ ap (λ x. left ++ x) f
+    ∙ ap (λ x. x ++ right) (sym (append-nil left))
     )
     w
 
@@ -127,8 +126,7 @@ up-to-lead left cs h p e =
 -- A text that begins with a trailing one, from there.
 pub past-trail : (right ds : List ℕ) (l : ℕ) → trailing l ≡ true → encodes (l ∷ ds) ≡ right → (3 ≤ length right) × (drop 3 right ≡ encodes ds)
 past-trail right ds l p e =
-    let wide = trail-width l p in
-    (
+    let wide = trail-width l p in (
       omega (arith, ap length e, length-append (encode l) (encodes ds)),
       ap (drop 3) (sym e) ∙ drop-at (encode l) (encodes ds) 3 wide,
     )
@@ -140,19 +138,19 @@ stored-pair cs ds h l p q k m =
     let b = trailing-range l q in
     let x = paired h l in
     let halves : utf16 h ++ [] ++ (utf16 l ++ units ds) ≡ utf16 x ++ units ds =
-        ap (λ u. u ++ [] ++ (utf16 l ++ units ds)) (utf16-below h (omega arith))
-        ∙ ap (λ u. h ∷ (u ++ units ds)) (utf16-below l (omega arith))
-        ∙ ap (λ u. u ++ units ds) (sym (utf16-paired h l p q))
+    ap (λ u. u ++ [] ++ (utf16 l ++ units ds)) (utf16-below h (omega arith))
+    ∙ ap (λ u. h ∷ (u ++ units ds)) (utf16-below l (omega arith))
+    ∙ ap (λ u. u ++ units ds) (sym (utf16-paired h l p q))
     in
     let same : units (cs ++ h ∷ []) ++ units (l ∷ ds) ≡ units (cs ++ x ∷ ds) =
-        ap (λ u. u ++ units (l ∷ ds)) (units-append cs (h ∷ []))
-        ∙ append-assoc (units cs) (utf16 h ++ []) (utf16 l ++ units ds)
-        ∙ ap (λ u. units cs ++ u) halves
-        ∙ sym (units-append cs (x ∷ ds))
+    ap (λ u. u ++ units (l ∷ ds)) (units-append cs (h ∷ []))
+    ∙ append-assoc (units cs) (utf16 h ++ []) (utf16 l ++ units ds)
+    ∙ ap (λ u. units cs ++ u) halves
+    ∙ sym (units-append cs (x ∷ ds))
     in
     let quiet : leading l ≡ leading x = not-leading-above l (omega arith) ∙ sym (not-leading-above x (omega arith)) in
     let back : Canonical (ends false cs) (x ∷ ds) =
-        (omega arith, and-right (ends false cs) (trailing x) (not-trailing-above x (omega arith)), subst (λ b. Canonical b ds) quiet (m .2))
+    (omega arith, and-right (ends false cs) (trailing x) (not-trailing-above x (omega arith)), subst (λ b. Canonical b ds) quiet (m .2))
     in
     ap (λ us. encodes (points us)) same
     ∙ ap encodes (points-units false (cs ++ x ∷ ds) (canonical-append false cs (x ∷ ds) (canonical-front false cs (h ∷ []) k) back))
@@ -165,10 +163,10 @@ joins-pair left right old new front middle back x r (cs, ds, h, l, same, p, q, k
     (stores-points left (cs ++ h ∷ []) k e)
     (stores-points right (l ∷ ds) m f)
     (
-      stored-pair cs ds h l p q k m
-      ∙ ap (λ t. t ++ encode (paired h l) ++ encodes ds) (sym (a ∙ up-to-lead left cs h p e .1))
-      ∙ ap (λ t. front ++ t ++ encodes ds) (sym (b ∙ ap encode same))
-      ∙ ap (λ t. front ++ middle ++ t) (sym (c ∙ past-trail right ds l q f .1))
+    stored-pair cs ds h l p q k m
+    ∙ ap (λ t. t ++ encode (paired h l) ++ encodes ds) (sym (a ∙ up-to-lead left cs h p e .1))
+    ∙ ap (λ t. front ++ t ++ encodes ds) (sym (b ∙ ap encode same))
+    ∙ ap (λ t. front ++ middle ++ t) (sym (c ∙ past-trail right ds l q f .1))
     )
     w
 

@@ -81,8 +81,7 @@ walk-more text n s t h found more k a w =
     let c = h .code in
     let all = done ++ c ∷ [] in
     let us = units-push done c in
-    let quiet : Canonical (ends false done) (c ∷ []) = (k .0, ap (λ b. b && trailing c) (sym (w .3)) ∙ k .1, tt) in
-    (
+    let quiet : Canonical (ends false done) (c ∷ []) = (k .0, ap (λ b. b && trailing c) (sym (w .3)) ∙ k .1, tt) in (
       all,
       canonical-append false done (c ∷ []) (w .1) quiet,
       encodes-push done (rest-of t) c ∙ ap (λ l. encodes done ++ l) (sym (k .3)) ∙ w .2,

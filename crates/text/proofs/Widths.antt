@@ -2,9 +2,9 @@
 use mathlib.Core.Path.{_≡_, refl, sym, ap, subst, _∙_}
 use mathlib.Core.List.{List, [], _∷_, _++_}
 use mathlib.Core.Logic.{_⊎_, inl, inr, ⊎-elim}
-use Prim.Native.Nat.{ℕ, _+_, _-_, _*_, _/_, _%_, _^_, _≤_, _<_}
+use Prim.Native.Nat.{ℕ, _+_, _-_, _*_, _/_, _%_, _^_, max, _≤_, _<_}
 use native.Mathlib.Omega.{arith}
-use lib.Count.{leadingZeros, leading-length, leading-unique}
+use lib.Count.{leading-unique}
 use lib.Dec.{ltb}
 use lib.ListN.{length, getD, drop}
 use lib.Utf8.{encode}
@@ -43,29 +43,29 @@ pub data Width (c : ℕ) : Type 0 where
 pub width-of : (c : ℕ) → Width c
 width-of c =
     ⊎-elim
-      (λ a. w1 a (encode-1 c a))
-      (λ a. ⊎-elim
-        (λ b. w2 a b (encode-2 c a b))
-        (λ b. ⊎-elim (λ d. w3 b d (encode-3 c b d)) (λ d. w4 d (encode-4 c d)) (cases-lt c 0x10000))
-        (cases-lt c 0x800))
-      (cases-lt c 0x80)
+    (λ a. w1 a (encode-1 c a))
+    (λ a. ⊎-elim
+    (λ b. w2 a b (encode-2 c a b))
+    (λ b. ⊎-elim (λ d. w3 b d (encode-3 c b d)) (λ d. w4 d (encode-4 c d)) (cases-lt c 0x10000))
+    (cases-lt c 0x800))
+    (cases-lt c 0x80)
 
 -- ---- the leading one bits of a byte
 
-pub lead-1 : (b : ℕ) → b < 0x80 → lead-length b ≡ 1
-lead-1 b h = cond-true (ltb b 0x80) _ _ (lt-ltb b 0x80 h)
+lead-ones : (b n m : ℕ) → n + m ≡ 8 → 0xFF - b < 2 ^ m → 2 ^ m ≤ 2 * (0xFF - b) + 1 → lead-length b ≡ max 1 n
+lead-ones b n m e low high = ap (max 1) (sym (leading-unique 8 (0xFF - b) n m e low high))
 
-lead-ones : (b n m : ℕ) → 0x80 ≤ b → n + m ≡ 8 → 0xFF - b < 2 ^ m → 2 ^ m ≤ 2 * (0xFF - b) + 1 → lead-length b ≡ n
-lead-ones b n m h e low high = cond-false (ltb b 0x80) _ _ (le-ltb b 0x80 h) ∙ sym (leading-unique 8 (0xFF - b) n m e low high)
+pub lead-1 : (b : ℕ) → b < 0x80 → lead-length b ≡ 1
+lead-1 b h = lead-ones b 0 8 refl (omega arith) (omega arith)
 
 pub lead-2 : (b : ℕ) → 0xC0 ≤ b → b < 0xE0 → lead-length b ≡ 2
-lead-2 b l h = lead-ones b 2 6 (omega arith) refl (omega arith) (omega arith)
+lead-2 b l h = lead-ones b 2 6 refl (omega arith) (omega arith)
 
 pub lead-3 : (b : ℕ) → 0xE0 ≤ b → b < 0xF0 → lead-length b ≡ 3
-lead-3 b l h = lead-ones b 3 5 (omega arith) refl (omega arith) (omega arith)
+lead-3 b l h = lead-ones b 3 5 refl (omega arith) (omega arith)
 
 pub lead-4 : (b : ℕ) → 0xF0 ≤ b → b < 0xF8 → lead-length b ≡ 4
-lead-4 b l h = lead-ones b 4 4 (omega arith) refl (omega arith) (omega arith)
+lead-4 b l h = lead-ones b 4 4 refl (omega arith) (omega arith)
 
 -- The leading one bits of a character's first byte count its bytes.
 pub lead-counts : (c : ℕ) → c < 0x110000 → lead-length (getD (encode c) 0 0) ≡ length (encode c)
@@ -76,18 +76,3 @@ lead-counts c h = go (width-of c)
     go (w2 a b e) = ap (λ l. lead-length (getD l 0 0)) e ∙ lead-2 (0xC0 + c / 0x40) (omega arith) (omega arith) ∙ sym (ap length e)
     go (w3 a b e) = ap (λ l. lead-length (getD l 0 0)) e ∙ lead-3 (0xE0 + c / 0x1000) (omega arith) (omega arith) ∙ sym (ap length e)
     go (w4 a e) = ap (λ l. lead-length (getD l 0 0)) e ∙ lead-4 (0xF0 + c / 0x40000) (omega arith) (omega arith) ∙ sym (ap length e)
-
--- What the count of leading ones says, where it is 0 and where it is not.
-pub lead-is : (b r : ℕ) → b < 0x100 → r ≡ leadingZeros 8 (0xFF - b) → (r ≡ 0 → 1 ≡ lead-length b) × ((r ≡ 0 → ⊥) → r ≡ lead-length b)
-lead-is b r h e = (λ z. sym (lead-1 b (none z)), λ n. e ∙ sym (cond-false (ltb b 0x80) _ _ (le-ltb b 0x80 (some n))))
-  where
-    none : r ≡ 0 → b < 0x80
-    none z = let k = leading-length 8 (0xFF - b) (omega arith) in
-        let whole : k .0 ≡ 8 = omega (arith, k .1) in
-        let top : 2 ^ 8 ≤ 2 * (0xFF - b) + 1 = subst (λ m. 2 ^ m ≤ 2 * (0xFF - b) + 1) whole (k .3) in
-        omega arith
-    some : (r ≡ 0 → ⊥) → 0x80 ≤ b
-    some n = ⊎-elim
-        (λ low. absurd (n (e ∙ sym (leading-unique 8 (0xFF - b) 0 8 refl (omega arith) (omega arith)))))
-        (λ high. high)
-        (cases-lt b 0x80)

@@ -29,5 +29,5 @@ Joins left right old new (Ok n) =
 Joins left right old new (Err e) =
     (new ≡ old)
     × Refuses ((12, Lawful left × Lawful right)
-      ∷ (13, (us vs : List ℕ) → Stores left us → Stores right vs → length (stored (us ++ vs)) ≤ length old)
-      ∷ []) e
+    ∷ (13, (us vs : List ℕ) → Stores left us → Stores right vs → length (stored (us ++ vs)) ≤ length old)
+    ∷ []) e

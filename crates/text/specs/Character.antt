@@ -1,18 +1,16 @@
 -- One character of a stored text: a code point up to 0x10FFFF, surrogates among them, in UTF-8.
 use mathlib.Core.Path.{_≡_}
 use mathlib.Core.List.{List, _++_}
-use mathlib.Core.Bool.{cond}
-use Prim.Native.Nat.{ℕ, _+_, _-_, _/_, _%_, _≤_, _<_}
+use Prim.Native.Nat.{ℕ, _+_, _-_, _/_, _%_, max, _≤_, _<_}
 use denote.Ref.{now}
 use lib.Count.{leadingZeros}
-use lib.Dec.{ltb}
 use lib.ListN.{length, drop}
 use lib.Utf8.{encode}
 use Rattle.text.specs.declared.character.Character.{Character}
 
 -- The number of leading one bits of a byte, which are the leading zeros of its complement, or 1 if there are none.
 abbrev pub lead-length : ℕ → ℕ
-lead-length lead = cond (ltb lead 0x80) 1 (leadingZeros 8 (0xFF - lead))
+lead-length lead = max 1 (leadingZeros 8 (0xFF - lead))
 
 -- The bytes begin with the code point c.
 abbrev pub Begins : List ℕ → ℕ → Type 0

@@ -23,4 +23,4 @@ abbrev pub JoinsAsUnits : Type 0
 JoinsAsUnits =
     ((us vs : List ℕ) → (ends false us && begins-trailing vs) ≡ false → stored (us ++ vs) ≡ stored us ++ stored vs)
     × ((us vs : List ℕ) (h l : ℕ) → leading h ≡ true → trailing l ≡ true
-      → stored ((us ++ h ∷ []) ++ l ∷ vs) ≡ stored us ++ encode (paired h l) ++ stored vs)
+    → stored ((us ++ h ∷ []) ++ l ∷ vs) ≡ stored us ++ encode (paired h l) ++ stored vs)

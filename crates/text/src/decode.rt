@@ -9,8 +9,7 @@ use super::character::Character;
 
 // How many bytes a character takes: the number of leading one bits of its first byte, or 1 if there are none.
 pub fn character_len(lead: u8) -> usize
-    ensures ones { λ r. ⌜ r ≡ lead-length lead ⌝ }
-    ensures bytes { λ r. ⌜ ((c : ℕ) → c < 0x110000 → getD (encode c) 0 0 ≡ lead → r ≡ length (encode c)) ⌝ }
+    ensures { λ r. ⌜ r ≡ lead-length lead ⌝ }
 {
     match lead.leading_ones() {
         0 => 1,
@@ -43,7 +42,9 @@ fn three(a: u8, b: u8, c: u8) -> Option<u32>
     ensures { λ r. ⌜ Cases r ((x : ℕ) → Three a b c x → ⊥) (Three a b c) ⌝ }
 {
     let code = match (a, b, c) {
-        (0xE0..=0xEF, 0x80..=0xBF, 0x80..=0xBF) => (a - 0xE0) as u32 * 0x1000 + (b - 0x80) as u32 * 0x40 + (c - 0x80) as u32,
+        (0xE0..=0xEF, 0x80..=0xBF, 0x80..=0xBF) => (a - 0xE0) as u32 * 0x1000
+            + (b - 0x80) as u32 * 0x40
+            + (c - 0x80) as u32,
         _ => 0,
     };
     if code < 0x800 { None } else { Some(code) }
@@ -54,7 +55,10 @@ fn four(a: u8, b: u8, c: u8, d: u8) -> Option<u32>
     ensures { λ r. ⌜ Cases r ((x : ℕ) → Four a b c d x → ⊥) (Four a b c d) ⌝ }
 {
     let code = match (a, b, c, d) {
-        (0xF0..=0xF7, 0x80..=0xBF, 0x80..=0xBF, 0x80..=0xBF) => (a - 0xF0) as u32 * 0x40000 + (b - 0x80) as u32 * 0x1000 + (c - 0x80) as u32 * 0x40 + (d - 0x80) as u32,
+        (0xF0..=0xF7, 0x80..=0xBF, 0x80..=0xBF, 0x80..=0xBF) => (a - 0xF0) as u32 * 0x40000
+            + (b - 0x80) as u32 * 0x1000
+            + (c - 0x80) as u32 * 0x40
+            + (d - 0x80) as u32,
         _ => 0,
     };
     match code {
@@ -96,5 +100,8 @@ pub fn first_character(bytes: &[u8]) -> Option<Character<'_>>
     let Some(code) = code_point(bytes, len) else {
         return None;
     };
-    Some(Character { code, bytes: &bytes[0..len] })
+    Some(Character {
+        code,
+        bytes: &bytes[0..len],
+    })
 }

@@ -8,9 +8,9 @@ ghost use Rattle.std.specs.Finite.{nth};
 ghost use Rattle.std.specs.Options.{Cases};
 ghost use Rattle.text.specs.Survey.{Surveyed};
 ghost use Rattle.text.specs.Utf16.{leading, utf16};
-use base::Fault;
 use super::reader::Characters;
 use super::surrogates::leading_of;
+use base::Fault;
 
 // What is found: how many units a text has, the one at a place, and the leading surrogate that it ends with.
 #[derive(Clone, Copy)]
@@ -52,7 +52,11 @@ fn step(found: Survey, code: u32, n: usize) -> Survey
     } else {
         found.picked
     };
-    Survey { units, picked, lead: leading_of(code) }
+    Survey {
+        units,
+        picked,
+        lead: leading_of(code),
+    }
 }
 
 // Walks over the whole text, and finds its unit at n.
@@ -60,7 +64,11 @@ pub fn walk(text: &[u8], n: usize) -> Result<Survey, Fault>
     ensures { λ r. ⌜ Surveyed (now (text .entry)) n r ⌝ }
 {
     let mut characters = Characters::new(text);
-    let mut found = Survey { units: 0, picked: None, lead: None };
+    let mut found = Survey {
+        units: 0,
+        picked: None,
+        lead: None,
+    };
     while let Some(c) = characters.next()? {
         found = step(found, c.code, n);
     }

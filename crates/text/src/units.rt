@@ -2,8 +2,8 @@
 ghost use Rattle.std.specs.Orderings.{When};
 ghost use Rattle.text.specs.Calls.{Counts, Picks};
 ghost use Rattle.text.specs.Stored.{Lawful};
-use base::Fault;
 use super::survey::walk;
+use base::Fault;
 
 // Whether the bytes are the stored form of a text.
 pub fn is_lawful(text: &[u8]) -> bool

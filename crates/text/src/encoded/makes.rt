@@ -18,10 +18,32 @@ impl Encoded {
         ensures { λ r. ⌜ Cases r (0x10FFFF < code) (λ e. bytes-of e ≡ encode code) ⌝ }
     {
         match code {
-            0..=0x7F => Some(Encoded { bytes: [code as u8, 0, 0, 0], len: 1 }),
-            0x80..=0x7FF => Some(Encoded { bytes: [0xC0 + (code / 0x40) as u8, tail(code), 0, 0], len: 2 }),
-            0x800..=0xFFFF => Some(Encoded { bytes: [0xE0 + (code / 0x1000) as u8, tail(code / 0x40), tail(code), 0], len: 3 }),
-            0x1_0000..=0x10_FFFF => Some(Encoded { bytes: [0xF0 + (code / 0x4_0000) as u8, tail(code / 0x1000), tail(code / 0x40), tail(code)], len: 4 }),
+            0..=0x7F => Some(Encoded {
+                bytes: [code as u8, 0, 0, 0],
+                len: 1,
+            }),
+            0x80..=0x7FF => Some(Encoded {
+                bytes: [0xC0 + (code / 0x40) as u8, tail(code), 0, 0],
+                len: 2,
+            }),
+            0x800..=0xFFFF => Some(Encoded {
+                bytes: [
+                    0xE0 + (code / 0x1000) as u8,
+                    tail(code / 0x40),
+                    tail(code),
+                    0,
+                ],
+                len: 3,
+            }),
+            0x1_0000..=0x10_FFFF => Some(Encoded {
+                bytes: [
+                    0xF0 + (code / 0x4_0000) as u8,
+                    tail(code / 0x1000),
+                    tail(code / 0x40),
+                    tail(code),
+                ],
+                len: 4,
+            }),
             _ => None,
         }
     }

@@ -1,19 +1,22 @@
 ghost use mathlib.Core.Path.{_≡_};
 ghost use mathlib.Core.Bool.{false};
 ghost use Rattle.text.specs.Reader.{rest-of, led-of, Next};
-use base::Fault;
-use super::Characters;
 use super::super::character::Character;
 use super::super::decode::first_character;
 use super::super::surrogates::is_leading;
 use super::super::surrogates::is_trailing;
+use super::Characters;
+use base::Fault;
 
 impl<'a> Characters<'a> {
     pub fn new(text: &'a [u8]) -> Characters<'a>
         ensures rest { λ r. ⌜ rest-of r ≡ now (text .entry) ⌝ }
         ensures led { λ r. ⌜ led-of r ≡ false ⌝ }
     {
-        Characters { rest: text, led: false }
+        Characters {
+            rest: text,
+            led: false,
+        }
     }
 
     // The next character, or None at the end. A high-low pair in two characters is refused, as it is one in stored form.

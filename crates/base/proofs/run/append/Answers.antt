@@ -13,10 +13,9 @@ returns g c =
     let at = c .args .count in
     let more = c .args .more .now in
     let written = c .copy-from-slice .last .self in
-    let same : length more ≡ at + length more - at = omega arith in
-    (
+    let same : length more ≡ at + length more - at = omega arith in (
       refl,
       omega arith,
       putMid-paste at (at + length more - at) xs written more (length more) (c .copy-from-slice .ensures .after) same refl
-      ∙ ap (λ zs. take at xs ++ zs ++ drop (at + length more) xs) (take-length more),
+          ∙ ap (λ zs. take at xs ++ zs ++ drop (at + length more) xs) (take-length more),
     )

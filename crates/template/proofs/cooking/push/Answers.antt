@@ -9,8 +9,8 @@ returns-in-Some c =
     let both = c .in-Some .both in
     record {
       adds =
-        adds-pair (c .args .out .now) (c .put-character .last .out) (c .args .done) (c .args .code) both (c .put-character .result)
-        (omega arith) (c .in-Some .ensures tt) put;
+          adds-pair (c .args .out .now) (c .put-character .last .out) (c .args .done) (c .args .code) both (c .put-character .result)
+          (omega arith) (c .in-Some .ensures tt) put;
       short = omega (arith, put .0, length-encode both, width-bounds both);
     }
 
@@ -20,7 +20,7 @@ returns-in-None c =
     let code = c .args .code in
     record {
       adds =
-        adds-one (c .args .out .now) (c .put-character-in-None .last .out) (c .args .done) code (c .put-character-in-None .result) (c .leading-of .result)
-        (omega arith) (c .pre .code) (c .in-None .ensures tt) (c .leading-of .ensures) put;
+          adds-one (c .args .out .now) (c .put-character-in-None .last .out) (c .args .done) code (c .put-character-in-None .result) (c .leading-of .result)
+          (omega arith) (c .pre .code) (c .in-None .ensures tt) (c .leading-of .ensures) put;
       short = omega (arith, put .0, length-encode code, width-bounds code);
     }

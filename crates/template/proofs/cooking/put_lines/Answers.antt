@@ -25,20 +25,20 @@ loop-byte-again c =
     let end = c .match-byte .len in
     let same : length new ≡ length out = omega arith in
     elim (c .match-byte .came) [
-      in-13 w ↦
-        lined-cr old run at out len cr k b low refl inv new end (w .in-13 .is) same
-        (put-as out new (w .put-len .last .out) (10 ∷ []) len end (w .put-len .result) (w .out-is) (w .len-is) (w .put-len .ensures))
-    | in-10 w ↦ lined-lf old run at out len cr k b low refl inv new end (w .in-10 .is) (w .if-after-cr .taken) (w .out-is) (w .len-is)
-    | in-rest w ↦
-        let no-lf : (cr && eqb b 10) ≡ false =
-            elim (w .in-rest· .came) [
-              in-rest··by·in-10·else-after-cr v ↦ and-left cr (eqb b 10) (v .if-after-cr .left)
+      | in-13 w ↦
+          lined-cr old run at out len cr k b low refl inv new end (w .in-13 .is) same
+          (put-as out new (w .put-len .last .out) (10 ∷ []) len end (w .put-len .result) (w .out-is) (w .len-is) (w .put-len .ensures))
+      | in-10 w ↦ lined-lf old run at out len cr k b low refl inv new end (w .in-10 .is) (w .if-after-cr .taken) (w .out-is) (w .len-is)
+      | in-rest w ↦
+          let no-lf : (cr && eqb b 10) ≡ false =
+          elim (w .in-rest· .came) [
+            | in-rest··by·in-10·else-after-cr v ↦ and-left cr (eqb b 10) (v .if-after-cr .left)
             | in-rest··by·in-rest· v ↦ and-right cr (eqb b 10) (ne-eqb b 10 (λ e. omega arith))
-            ]
-        in
-        let no-cr : b ≡ 13 → ⊥ = elim (w .in-rest· .came) [ in-rest··by·in-10·else-after-cr v ↦ (λ e. omega (arith, v .in-10 .is)) | in-rest··by·in-rest· v ↦ (λ e. omega arith) ] in
-        lined-other old run at out len cr k b low refl inv new end no-cr no-lf same
-        (put-as out new (w .put-len-in-rest .last .out) (b ∷ []) len end (w .put-len-in-rest .result) (w .out-is) (w .len-is) (w .put-len-in-rest .ensures))
+          ]
+          in
+          let no-cr : b ≡ 13 → ⊥ = elim (w .in-rest· .came) [ in-rest··by·in-10·else-after-cr v ↦ (λ e. omega (arith, v .in-10 .is)) | in-rest··by·in-rest· v ↦ (λ e. omega arith) ] in
+          lined-other old run at out len cr k b low refl inv new end no-cr no-lf same
+          (put-as out new (w .put-len-in-rest .last .out) (b ∷ []) len end (w .put-len-in-rest .result) (w .out-is) (w .len-is) (w .put-len-in-rest .ensures))
     ]
 
 pub returns : need.returns

@@ -29,8 +29,7 @@ pub returns-then-is-trailing : need.returns-then-is-trailing
 returns-then-is-trailing c =
     let bytes = c .args .self .now .rest .now in
     let x = c .in-Some .c .code in
-    let some : 0 < length bytes = omega (arith, eqb-false (length bytes) 0 (sym (c .if-is-empty .ensures tt))) in
-    (
+    let some : 0 < length bytes = omega (arith, eqb-false (length bytes) 0 (sym (c .if-is-empty .ensures tt))) in (
       inl (refl, clashes (c .args .self .now .led) bytes (drop (length (encode x)) bytes) x (c .in-Some .ensures tt .2) some (c .if-self .taken) (sym (c .if-is-trailing .ensures tt))),
       refl,
       refl,
@@ -55,12 +54,11 @@ returns c =
     let own = c .in-Some .c .bytes .now in
     let h = c .in-Some .ensures tt in
     let apart : (c .args .self .now .led && trailing x) ≡ false =
-        elim (c .else-self .came) [
-          else-self·by·then-self·else-is-trailing w ↦ and-right (c .args .self .now .led) (trailing x) (sym (w .if-is-trailing .ensures tt))
-        | else-self·by·else-self w ↦ and-left (c .args .self .now .led) (trailing x) (w .if-self .left)
-        ]
-    in
-    (
+    elim (c .else-self .came) [
+      | else-self·by·then-self·else-is-trailing w ↦ and-right (c .args .self .now .led) (trailing x) (sym (w .if-is-trailing .ensures tt))
+      | else-self·by·else-self w ↦ and-left (c .args .self .now .led) (trailing x) (w .if-self .left)
+    ]
+    in (
       omega (arith, h .0),
       apart,
       h .1,
