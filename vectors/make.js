@@ -1,8 +1,8 @@
-// Makes the vectors of template text: node vectors/make.js
+// Makes the vectors of template text, units and joining: node vectors/make.js
 //
 // Writes crates/vectors/stdin, a command on each line, and crates/vectors/stdout, the answer to each.
-// What a raw text cooks to is what this JavaScript engine makes of it. The random texts come from a fixed
-// start, so that every run writes the same files.
+// What a raw text cooks to, the units of a text and what two texts join to are what this JavaScript engine
+// makes of them. The random texts come from a fixed start, so that every run writes the same files.
 'use strict';
 const fs = require('fs');
 const path = require('path');
@@ -194,10 +194,83 @@ for (const room of [0, 1, 100]) {
   for (const bytes of ['ff', '61ff', 'eda0bdedb880']) vector('limits', `escape ${bytes} ${room}`, MALFORMED);
 }
 
+// ---- Units and joining ----
+
+// A text's units: how many there are, and those at its ends, behind its end and at two places by chance.
+function unitVectors(kind, text) {
+  const bytes = hex(stored(text));
+  const places = [0, text.length - 1, text.length, text.length + 1, below(text.length + 1), below(text.length + 1)];
+  vector(`lawful, ${kind}`, `lawful ${bytes}`, 'yes');
+  vector(`units, ${kind}`, `units ${bytes}`, `ok ${text.length}`);
+  for (const k of new Set(places.filter((place) => place >= 0))) {
+    const unit = text.charCodeAt(k); // NaN behind the end
+    vector(`unit, ${kind}`, `unit ${bytes} ${k}`, k < text.length ? `ok ${unit.toString(16).padStart(4, '0')}` : 'none');
+  }
+}
+
+// Two texts joined. Where the halves of a pair meet, the stored forms one behind the other are no stored text.
+function joinVectors(kind, left, right) {
+  const [a, b, both] = [left, right, left + right].map((text) => hex(stored(text)));
+  vector(`join, ${kind}`, `join ${a} ${b}`, `ok ${both}`);
+  for (const bytes of new Set([a, b, both])) vector(`lawful, ${kind}`, `lawful ${bytes}`, 'yes');
+  if (a + b !== both) vector(`lawful, ${kind}`, `lawful ${a}${b}`, 'no');
+}
+
+// Bytes that are no stored text: every call refuses them, on either side, and whatever the room is.
+function badVectors(kind, bad, good) {
+  vector(`lawful, ${kind}`, `lawful ${bad}`, 'no');
+  vector(`units, ${kind}`, `units ${bad}`, MALFORMED);
+  for (const k of [0, 1, 100]) vector(`unit, ${kind}`, `unit ${bad} ${k}`, MALFORMED);
+  for (const texts of [`${bad} `, ` ${bad}`, `${bad} ${good}`, `${good} ${bad}`, `${bad} ${bad}`]) {
+    for (const room of ['', ' 0', ' 1', ' 1000']) vector(`join, ${kind}`, `join ${texts}${room}`, MALFORMED);
+  }
+}
+
+const WIDTHS = ['\0', 'a', '\x7f\x80', '\u07ff\u0800', '\uffff\u{10000}', 'é', '中', '😀', '\ud83d', '\ude00', 'a\ud83d', '\ude00a'];
+const SHORT = [...new Set([...EDGES, ...WIDTHS])];
+SHORT.forEach((text) => unitVectors('short', text));
+times(1600, anyText).forEach((text) => unitVectors('any', text));
+
+// Every two of the short texts, and longer ones with these where they meet.
+SHORT.forEach((left) => SHORT.forEach((right) => joinVectors('short', left, right)));
+const high = () => String.fromCharCode(0xd800 + below(0x400));
+const low = () => String.fromCharCode(0xdc00 + below(0x400));
+const pair = () => high() + low();
+const none = () => '';
+const SEAMS = [[high, low], [high, none], [none, low], [low, high], [high, high], [low, low], [pair, low], [high, pair], [none, none]];
+function sides() {
+  const [end, start] = below(2) === 0 ? [high, low] : oneOf(SEAMS);
+  return [anyText() + end(), start() + anyText()];
+}
+const JOINS = times(1600, sides);
+JOINS.forEach(([left, right]) => joinVectors('any', left, right));
+times(100, anyText).forEach((text) => { joinVectors('empty side', text, ''); joinVectors('empty side', '', text); });
+
+// Unlawful bytes alone, and between two texts.
+LONE.forEach((bytes) => vector('lawful, bytes', `lawful ${bytes}`, 'yes'));
+for (const bytes of BAD) {
+  badVectors('bytes', bytes, '61');
+  times(4, () => badVectors('bytes within', hex(stored(anyText())) + bytes + hex(stored(anyText())), hex(stored(anyText()))));
+}
+
+// Room for the joined text, and the greatest numbers.
+for (const left of WIDTHS) {
+  for (const right of WIDTHS) limits(`join ${hex(stored(left))}`, stored(right), stored(left + right));
+}
+JOINS.slice(0, 200).forEach(([left, right]) => limits(`join ${hex(stored(left))}`, stored(right), stored(left + right)));
+vector('limits', 'join   0', 'ok ');
+vector('limits', 'join 61 62 18446744073709551615', 'ok 6162');
+vector('limits', 'join 61 62 0002', 'ok 6162');
+vector('limits', 'unit 61 18446744073709551615', 'none');
+vector('limits', 'unit 61 0000', 'ok 0061');
+
 // Lines that are no command.
 const LINES = ['', ' ', 'cook', 'escape', 'cook -', ' cook 61', 'cook 61 ', 'cook 61  1', 'cook   1', 'cook 6', 'cook 616', 'cook 6G',
   'cook 6A', 'cook --', 'cook -1', 'Cook 61', 'cooks 61', 'raw 61', 'escape 61 -1', 'escape 61 +1', 'escape 61 1 1', 'escape 61 0x1',
-  'escape 61 18446744073709551616', 'escape\t61', 'cook é', 'cook 61\r'];
+  'escape 61 18446744073709551616', 'escape\t61', 'cook é', 'cook 61\r', 'lawful', 'lawful 6', 'lawful 6A', 'lawful 61 ', 'lawful 61 1',
+  'Lawful 61', 'units', 'units 6', 'units 61 1', 'unit', 'unit 61', 'unit 61 ', 'unit 6 1', 'unit 61 +1', 'unit 61 -1', 'unit 61 1 1',
+  'unit 61 18446744073709551616', 'join', 'join 61', 'join 61 6', 'join 6 61', 'join 61 61 ', 'join 61 61 +1', 'join 61 61 1 1',
+  'join 61 61 18446744073709551616', 'joins 61 61', ' join 61 61', 'join 61 61\r'];
 LINES.forEach((line) => vector('no command', line, 'malformed'));
 
 // ---- The files ----

@@ -1,4 +1,4 @@
--- Reading the parts of a request that are no text: the name of the call, and the room.
+-- Reading the words of a request that are no text: the name of the call, and a number.
 use mathlib.Core.Path.{_≡_}
 use mathlib.Core.List.{List}
 use Prim.Native.Nat.{ℕ, _^_, _<_}
@@ -18,5 +18,5 @@ abbrev pub CallRead : List ℕ → Result Call Flaw → Type 0
 CallRead word r = Cases r (λ call. name-of call ≡ word) (λ _. (call : Call) → name-of call ≡ word → ⊥)
 
 -- A numeral is read as its value, and refused where 64 bits do not hold that.
-abbrev pub RoomRead : List ℕ → Result ℕ Flaw → Type 0
-RoomRead word r = Cases r (λ n. Numeral 10 word × (value 10 word ≡ n)) (λ _. Numeral 10 word → value 10 word < 2 ^ 64 → ⊥)
+abbrev pub NumberRead : List ℕ → Result ℕ Flaw → Type 0
+NumberRead word r = Cases r (λ n. Numeral 10 word × (value 10 word ≡ n)) (λ _. Numeral 10 word → value 10 word < 2 ^ 64 → ⊥)

@@ -4,7 +4,7 @@ ghost use lib.ListN.{length};
 ghost use Rattle.std.specs.Of.Vec.{vec-items};
 ghost use Rattle.template.specs.Calls.{Writes};
 ghost use Rattle.script.specs.declared.request.Flaw.the-variants.{Memory};
-ghost use Rattle.script.specs.Parts.{CallRead, RoomRead};
+ghost use Rattle.script.specs.Parts.{CallRead, NumberRead};
 ghost use Rattle.script.specs.Runs.{Means, form, Answers};
 use super::answer::Answer;
 use super::hex;
@@ -69,7 +69,7 @@ impl Request {
         let call = call_of(call)?;
         let text = hex::bytes_of(heap, text.as_bytes())?;
         let room = match words.next() {
-            Some(room) => room_of(room)?,
+            Some(room) => number_of(room)?,
             None => usize::MAX,
         };
         match words.next() {
@@ -98,14 +98,14 @@ fn call_of(word: &str) -> Result<Call, Flaw>
 }
 
 // The decimal number that the word writes, with no sign.
-fn room_of(word: &str) -> Result<usize, Flaw>
-    ensures { λ r. ⌜ RoomRead (now (word .entry)) r ⌝ }
+pub fn number_of(word: &str) -> Result<usize, Flaw>
+    ensures { λ r. ⌜ NumberRead (now (word .entry)) r ⌝ }
 {
     if let [b'+', ..] = word.as_bytes() {
         return Err(Flaw::Malformed);
     }
     match word.parse::<usize>() {
-        Ok(room) => Ok(room),
+        Ok(number) => Ok(number),
         Err(_) => Err(Flaw::Malformed),
     }
 }
