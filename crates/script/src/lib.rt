@@ -17,7 +17,7 @@ pub use hex::bytes_of;
 pub use request::Call;
 pub use request::Flaw;
 pub use request::FlawFromAlloc;
-pub use request::Request;
+use request::Request;
 pub use request::number_of;
 use std::alloc::AllocError;
 use std::alloc::Global;

@@ -58,7 +58,7 @@ pub struct Request {
 
 impl Request {
     // Reads a line: the call, the text and perhaps the room, with one space between words.
-    pub fn parse(heap: Global, line: &[u8]) -> Result<Request, Flaw> {
+    pub(crate) fn parse(heap: Global, line: &[u8]) -> Result<Request, Flaw> {
         let Ok(line) = from_utf8(line) else {
             return Err(Flaw::Malformed);
         };

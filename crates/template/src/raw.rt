@@ -2,7 +2,7 @@
 mod escapes;
 mod front;
 mod plain;
-pub mod steps;
+mod steps;
 
 // A part of raw template text.
 #[derive(Clone, Copy)]

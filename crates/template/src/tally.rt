@@ -5,7 +5,7 @@ ghost use Rattle.template.specs.Tally.{Put};
 use base::append;
 
 // Writes `more` at `at` if it ends within `out`, and answers where it ends in any case.
-pub fn put(out: &mut [u8], at: usize, more: &[u8]) -> usize
+pub(crate) fn put(out: &mut [u8], at: usize, more: &[u8]) -> usize
     requires { ⌜ at + length (now more) < 2 ^ 64 ⌝ }
     ensures { λ r. ⌜ Put (now (out .entry)) at (now (more .entry)) (now (out .exit)) r ⌝ }
 {

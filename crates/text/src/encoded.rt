@@ -1,6 +1,6 @@
 ghost use Prim.Native.Nat.{_≤_};
 
-pub mod makes;
+mod makes;
 
 // The bytes of one character: the first `len` of four.
 #[derive(Clone, Copy)]

@@ -5,14 +5,14 @@ ghost use Rattle.std.specs.Options.{Cases};
 ghost use Rattle.text.specs.Utf16.{leading, trailing, paired};
 
 // A leading surrogate, the first half of a pair.
-pub fn is_leading(code: u32) -> bool
+pub(crate) fn is_leading(code: u32) -> bool
     ensures { λ r. ⌜ r ≡ leading code ⌝ }
 {
     matches!(code, 0xD800..=0xDBFF)
 }
 
 // A trailing surrogate, the second half of a pair.
-pub fn is_trailing(code: u32) -> bool
+pub(crate) fn is_trailing(code: u32) -> bool
     ensures { λ r. ⌜ r ≡ trailing code ⌝ }
 {
     matches!(code, 0xDC00..=0xDFFF)

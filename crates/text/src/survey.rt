@@ -60,7 +60,7 @@ fn step(found: Survey, code: u32, n: usize) -> Survey
 }
 
 // Walks over the whole text, and finds its unit at n.
-pub fn walk(text: &[u8], n: usize) -> Result<Survey, Fault>
+pub(crate) fn walk(text: &[u8], n: usize) -> Result<Survey, Fault>
     ensures { λ r. ⌜ Surveyed (now (text .entry)) n r ⌝ }
 {
     let mut characters = Characters::new(text);

@@ -157,7 +157,7 @@ fn past_line_end(c: char, rest: &[u8]) -> Option<&[u8]>
 }
 
 // The part that begins with a backslash.
-pub fn backslash(raw: &[u8]) -> Option<RawPart<'_>>
+pub(crate) fn backslash(raw: &[u8]) -> Option<RawPart<'_>>
     requires { ⌜ 0 < length (now raw) ⌝ ∗ ⌜ getD (now raw) 0 0 ≡ 0x5C ⌝ }
     ensures { λ r. ⌜ Parts (now (raw .entry)) r ⌝ }
 {

@@ -9,7 +9,7 @@ ghost use Rattle.template.specs.Fronts.{Unreadable};
 use text::first_character;
 
 // What stands in the bytes before `rest`, which is their end.
-pub fn before<'a>(bytes: &'a [u8], rest: &[u8]) -> &'a [u8]
+pub(crate) fn before<'a>(bytes: &'a [u8], rest: &[u8]) -> &'a [u8]
     requires { ⌜ ((front : List ℕ) × (now bytes ≡ front ++ now rest)) ⌝ }
     ensures { λ r. ⌜ now (bytes .entry) ≡ now r ++ now (rest .entry) ⌝ }
 {
@@ -17,7 +17,7 @@ pub fn before<'a>(bytes: &'a [u8], rest: &[u8]) -> &'a [u8]
 }
 
 // The character that the bytes begin with, and what follows it.
-pub fn split_char(bytes: &[u8]) -> Option<(char, &[u8])>
+pub(crate) fn split_char(bytes: &[u8]) -> Option<(char, &[u8])>
     ensures { λ r. ⌜ Cases r (Unreadable (now (bytes .entry))) (λ p. (scalar (p .0) ≡ true) × (now (bytes .entry) ≡ encode (p .0) ++ now (p .1))) ⌝ }
 {
     let Some(first) = first_character(bytes) else {

@@ -27,7 +27,7 @@ fn past_plain(bytes: &[u8]) -> Option<&[u8]>
 }
 
 // The longest run without a backslash.
-pub fn plain(raw: &[u8]) -> Option<RawPart<'_>>
+pub(crate) fn plain(raw: &[u8]) -> Option<RawPart<'_>>
     requires { ⌜ 0 < length (now raw) ⌝ ∗ ⌜ (getD (now raw) 0 0 ≡ 0x5C → ⊥) ⌝ }
     ensures { λ r. ⌜ Parts (now (raw .entry)) r ⌝ }
 {
