@@ -18,9 +18,10 @@ use Rattle.base.specs.Questions.{Refuses}
 use Rattle.text.specs.Utf16.{leading, trailing, units}
 use Rattle.text.specs.Stored.{Stores, Lawful}
 use Rattle.text.specs.Points.{Canonical, ends}
-use Rattle.text.specs.Reader.{GoesOn, Next, rest-of}
+use Rattle.text.specs.Reader.{Readable, Next, rest-of}
 use Rattle.text.specs.declared.character.Character.{Character}
 use Rattle.text.specs.declared.reader.Characters.{Characters}
+use Rattle.text.proofs.Stepping.{goes-on}
 use Rattle.text.proofs.Pairing.{stored-once, stores-units, points-units, canonical-append, ends-push, unlawful-more}
 use Rattle.template.specs.Escaped.{escaped, escapes, raw-of}
 use Rattle.template.specs.Tally.{Put, Filled}
@@ -102,7 +103,7 @@ finish text rest led old new len w none =
 
 -- Where what is left does not go on as a text, the whole is none.
 pub refuse : (text rest : List ℕ) (led : Bool) (old new : List ℕ) (len : ℕ) (e : Fault) → Walk text rest led old new len
-    → Refuses ((12, GoesOn led rest) ∷ []) e → Refuses ((12, Lawful text) ∷ []) e
+    → Refuses ((12, Readable led rest) ∷ []) e → Refuses ((12, Lawful text) ∷ []) e
 refuse text rest led old new len e w (inl bad) =
-    inl (bad .0, unlawful-more (w .0) rest text (w .1) (λ cs k q. bad .1 (cs, subst (λ l. Canonical l cs) (sym (w .3)) k, q)))
+    inl (bad .0, unlawful-more (w .0) rest text (w .1) (λ cs k q. bad .1 (goes-on led rest cs (subst (λ l. Canonical l cs) (sym (w .3)) k) q)))
 refuse text rest led old new len e w (inr bad) = absurd (bad .1)

@@ -22,10 +22,11 @@ use Rattle.base.specs.Questions.{Refuses}
 use Rattle.text.specs.declared.character.Character.{Character}
 use Rattle.text.specs.declared.reader.Characters.{Characters}
 use Rattle.text.specs.declared.survey.Survey.{Survey}
-use Rattle.text.specs.Reader.{rest-of, led-of, GoesOn, Next}
+use Rattle.text.specs.Reader.{rest-of, led-of, Readable, Next}
 use Rattle.text.specs.Stored.{Lawful}
 use Rattle.text.specs.Survey.{EndsWith}
 use Rattle.text.proofs.Pairing.{canonical-append, ends-push, units-append, utf16-below, utf16-above, unlawful-more}
+use Rattle.text.proofs.Stepping.{goes-on}
 use Rattle.text.proofs.Widths.{Width, w1, w2, w3, w4, width-of}
 
 pub units-push : (done : List ℕ) (c : ℕ) → units (done ++ c ∷ []) ≡ units done ++ utf16 c
@@ -97,7 +98,7 @@ walk-less s t h k =
     omega (arith, ap length (k .3), length-append (encode (h .code)) (rest-of t), length-encode (h .code), width-bounds (h .code))
 
 -- Where the rest does not go on, the whole is no text.
-pub walk-refused : (text : List ℕ) (n : ℕ) (s : Characters) (found : Survey) (e : Fault) → Walked text n s found → Refuses ((12, GoesOn (led-of s) (rest-of s)) ∷ []) e → Refuses ((12, Lawful text) ∷ []) e
+pub walk-refused : (text : List ℕ) (n : ℕ) (s : Characters) (found : Survey) (e : Fault) → Walked text n s found → Refuses ((12, Readable (led-of s) (rest-of s)) ∷ []) e → Refuses ((12, Lawful text) ∷ []) e
 walk-refused text n s found e w (inl (p, q)) =
-    inl (p, unlawful-more (w .0) (rest-of s) text (w .2) (λ cs k same. q (cs, subst (λ b. Canonical b cs) (sym (w .3)) k, same)))
+    inl (p, unlawful-more (w .0) (rest-of s) text (w .2) (λ cs k same. q (goes-on (led-of s) (rest-of s) cs (subst (λ b. Canonical b cs) (sym (w .3)) k) same)))
 walk-refused text n s found e w (inr (p, q)) = absurd q
