@@ -12,4 +12,4 @@ use Rattle.base.specs.Questions.{Refuses}
 -- the items in use, then all of `more`, then what lay behind; or all as it was, for want of room.
 abbrev pub Appended : {T : Type 0} → (old : List T) (count : ℕ) (more new : List T) → Result ℕ Fault → Type 0
 Appended old count more new (Ok n) = (n ≡ count + length more) × (n ≤ length old) × (new ≡ take count old ++ more ++ drop n old)
-Appended old count more new (Err e) = (new ≡ old) × Refuses ((13, count + length more ≤ length old) ∷ []) e
+Appended old count more new (Err e) = (new ≡ old) × Refuses (((13, 0), count + length more ≤ length old) ∷ []) e

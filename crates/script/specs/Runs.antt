@@ -29,6 +29,6 @@ form Cook us = stored us
 abbrev pub Answers : Call → List ℕ → ℕ → Result Answer AllocError → Type 0
 Answers call bytes room (Ok (Text v)) = (us : List ℕ) × Means call bytes us × (vec-items v ≡ form call us) × (length (form call us) ≤ room)
 Answers call bytes room (Ok (Refused e)) =
-    Refuses ((12, (us : List ℕ) × Means call bytes us) ∷ (13, (us : List ℕ) → Means call bytes us → length (form call us) ≤ room) ∷ []) e
+    Refuses (((12, 0), (us : List ℕ) × Means call bytes us) ∷ ((13, 0), (us : List ℕ) → Means call bytes us → length (form call us) ≤ room) ∷ []) e
 Answers call bytes room (Ok Malformed) = ⊥
 Answers call bytes room (Err e) = Unit {0}

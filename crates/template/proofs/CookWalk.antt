@@ -115,6 +115,6 @@ cook-finish raw rest old out done w none =
     )
 
 -- Where the rest is malformed, so is the whole.
-pub cook-refuse : (raw rest old out : List ℕ) (done : Cooked) (e : Fault) → CookWalk raw rest old out done → Refuses ((12, WellFormed rest) ∷ []) e → Refuses ((12, (us : List ℕ) × Cooks raw us) ∷ []) e
+pub cook-refuse : (raw rest old out : List ℕ) (done : Cooked) (e : Fault) → CookWalk raw rest old out done → Refuses (((12, 0), WellFormed rest) ∷ []) e → Refuses (((12, 0), (us : List ℕ) × Cooks raw us) ∷ []) e
 cook-refuse raw rest old out done e w (inl bad) = inl (bad .0, λ c. malformed-more (w .0) rest raw (w .1) (w .2) (bad .1) (c .1 .0, c .1 .1))
 cook-refuse raw rest old out done e w (inr bad) = absurd (bad .1)

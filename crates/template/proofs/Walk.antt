@@ -103,7 +103,7 @@ finish text rest led old new len w none =
 
 -- Where what is left does not go on as a text, the whole is none.
 pub refuse : (text rest : List ℕ) (led : Bool) (old new : List ℕ) (len : ℕ) (e : Fault) → Walk text rest led old new len
-    → Refuses ((12, Readable led rest) ∷ []) e → Refuses ((12, Lawful text) ∷ []) e
+    → Refuses (((12, 0), Readable led rest) ∷ []) e → Refuses (((12, 0), Lawful text) ∷ []) e
 refuse text rest led old new len e w (inl bad) =
     inl (bad .0, unlawful-more (w .0) rest text (w .1) (λ cs k q. bad .1 (goes-on led rest cs (subst (λ l. Canonical l cs) (sym (w .3)) k) q)))
 refuse text rest led old new len e w (inr bad) = absurd (bad .1)

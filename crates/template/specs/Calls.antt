@@ -17,12 +17,12 @@ use Rattle.template.specs.Tally.{Filled}
 abbrev pub Writes : (Means : List ℕ → Type 0) (form : List ℕ → List ℕ) (old new : List ℕ) → Result ℕ Fault → Type 0
 Writes Means form old new (Ok n) = (us : List ℕ) × Means us × (n ≡ length (form us)) × (n ≤ length old) × (new ≡ form us ++ drop n old)
 Writes Means form old new (Err e) =
-    (new ≡ old) × Refuses ((12, (us : List ℕ) × Means us) ∷ (13, (us : List ℕ) → Means us → length (form us) ≤ length old) ∷ []) e
+    (new ≡ old) × Refuses (((12, 0), (us : List ℕ) × Means us) ∷ ((13, 0), (us : List ℕ) → Means us → length (form us) ≤ length old) ∷ []) e
 
 -- One walk over such an input: how long `form us` is, which is written where it has room.
 abbrev pub Walks : (Means : List ℕ → Type 0) (form : List ℕ → List ℕ) (old new : List ℕ) → Result ℕ Fault → Type 0
 Walks Means form old new (Ok n) = (us : List ℕ) × Means us × (n ≡ length (form us)) × Filled old new (form us)
-Walks Means form old new (Err e) = Refuses ((12, (us : List ℕ) × Means us) ∷ []) e
+Walks Means form old new (Err e) = Refuses (((12, 0), (us : List ℕ) × Means us) ∷ []) e
 
 -- Escaping writes the raw text of a stored text.
 abbrev pub Escapes : (text old new : List ℕ) → Result ℕ Fault → Type 0

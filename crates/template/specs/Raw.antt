@@ -56,4 +56,4 @@ Reads part left rest =
 abbrev pub NextPart : RawReader → RawReader → Result (Option RawPart) Fault → Type 0
 NextPart s t (Ok (Some part)) = Reads part (left-of s) (left-of t)
 NextPart s t (Ok None) = (left-of s ≡ []) × (left-of t ≡ [])
-NextPart s t (Err e) = Refuses ((12, WellFormed (left-of s)) ∷ []) e × (left-of t ≡ left-of s)
+NextPart s t (Err e) = Refuses (((12, 0), WellFormed (left-of s)) ∷ []) e × (left-of t ≡ left-of s)

@@ -98,7 +98,7 @@ walk-less s t h k =
     omega (arith, ap length (k .3), length-append (encode (h .code)) (rest-of t), length-encode (h .code), width-bounds (h .code))
 
 -- Where the rest does not go on, the whole is no text.
-pub walk-refused : (text : List ℕ) (n : ℕ) (s : Characters) (found : Survey) (e : Fault) → Walked text n s found → Refuses ((12, Readable (led-of s) (rest-of s)) ∷ []) e → Refuses ((12, Lawful text) ∷ []) e
+pub walk-refused : (text : List ℕ) (n : ℕ) (s : Characters) (found : Survey) (e : Fault) → Walked text n s found → Refuses (((12, 0), Readable (led-of s) (rest-of s)) ∷ []) e → Refuses (((12, 0), Lawful text) ∷ []) e
 walk-refused text n s found e w (inl (p, q)) =
     inl (p, unlawful-more (w .0) (rest-of s) text (w .2) (λ cs k same. q (goes-on (led-of s) (rest-of s) cs (subst (λ b. Canonical b cs) (sym (w .3)) k) same)))
 walk-refused text n s found e w (inr (p, q)) = absurd q

@@ -21,9 +21,9 @@ Meets left right (Ok None) = (cs : List ℕ) × (ds : List ℕ) × Canonical fal
 Meets left right (Ok (Some x)) =
     (cs : List ℕ) × (ds : List ℕ) × (h : ℕ) × (l : ℕ) × (x ≡ paired h l) × (leading h ≡ true) × (trailing l ≡ true)
     × Canonical false (cs ++ h ∷ []) × (encodes (cs ++ h ∷ []) ≡ left) × Canonical false (l ∷ ds) × (encodes (l ∷ ds) ≡ right)
-Meets left right (Err e) = Refuses ((12, Lawful left × Lawful right) ∷ []) e
+Meets left right (Err e) = Refuses (((12, 0), Lawful left × Lawful right) ∷ []) e
 
 -- A run at the front of an output, or nothing.
 abbrev pub Written : (old run new : List ℕ) → Result ℕ Fault → Type 0
 Written old run new (Ok n) = (n ≡ length run) × (n ≤ length old) × (new ≡ run ++ drop n old)
-Written old run new (Err e) = (new ≡ old) × Refuses ((13, length run ≤ length old) ∷ []) e
+Written old run new (Err e) = (new ≡ old) × Refuses (((13, 0), length run ≤ length old) ∷ []) e

@@ -34,4 +34,4 @@ Next s t (Ok (Some h)) =
     (h .code ≤ 0x10FFFF) × ((led-of s && trailing (h .code)) ≡ false) × (now (h .bytes) ≡ encode (h .code))
     × (rest-of s ≡ encode (h .code) ++ rest-of t) × (led-of t ≡ leading (h .code))
 Next s t (Ok None) = (rest-of s ≡ []) × (rest-of t ≡ []) × (led-of t ≡ led-of s)
-Next s t (Err e) = Refuses ((12, Readable (led-of s) (rest-of s)) ∷ []) e × (rest-of t ≡ rest-of s) × (led-of t ≡ led-of s)
+Next s t (Err e) = Refuses (((12, 0), Readable (led-of s) (rest-of s)) ∷ []) e × (rest-of t ≡ rest-of s) × (led-of t ≡ led-of s)

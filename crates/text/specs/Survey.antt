@@ -29,4 +29,4 @@ Found text n s cs =
 
 abbrev pub Surveyed : List ℕ → ℕ → Result Survey Fault → Type 0
 Surveyed text n (Ok s) = (cs : List ℕ) × Found text n s cs
-Surveyed text n (Err e) = Refuses ((12, Lawful text) ∷ []) e
+Surveyed text n (Err e) = Refuses (((12, 0), Lawful text) ∷ []) e
