@@ -1,3 +1,5 @@
-pub mod Pairs
-pub mod Shown
+pub mod Cutting
 pub mod Numerals
+pub mod Pairs
+pub mod Requested
+pub mod Shown

@@ -5,9 +5,12 @@
 //
 // HEX is the text in lower-case hexadecimal, nothing at all where it is empty; ROOM is the size of the output in bytes.
 // The answer is `ok HEX`, `refused NUMBER layer LAYER node NODE`, or `malformed` where the line is no request.
+ghost use Rattle.script.specs.Replies.{Replies};
+
 mod answer;
 mod hex;
 mod request;
+mod words;
 
 pub use answer::Answer;
 pub use answer::AnswerDisplay;
@@ -26,7 +29,9 @@ use std::io::BufRead;
 use std::io::BufReader;
 
 // The answer to a line, which stands without its line feed.
-pub fn reply(heap: Global, line: &[u8]) -> Result<Answer, AllocError> {
+pub fn reply(heap: Global, line: &[u8]) -> Result<Answer, AllocError>
+    ensures { λ r. ⌜ Replies (now (line .entry)) r ⌝ }
+{
     match Request::parse(heap, line) {
         Ok(request) => request.run(heap),
         Err(Flaw::Malformed) => Ok(Answer::Malformed),

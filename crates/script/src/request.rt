@@ -5,9 +5,11 @@ ghost use Rattle.std.specs.Of.Vec.{vec-items};
 ghost use Rattle.template.specs.Calls.{Writes};
 ghost use Rattle.script.specs.declared.request.Flaw.the-variants.{Memory};
 ghost use Rattle.script.specs.Parts.{CallRead, NumberRead};
+ghost use Rattle.script.specs.Requests.{RequestRead};
 ghost use Rattle.script.specs.Runs.{Means, form, Answers};
 use super::answer::Answer;
 use super::hex;
+use super::words::cut_word;
 use base::Fault;
 use std::alloc::AllocError;
 use std::alloc::Global;
@@ -58,24 +60,21 @@ pub struct Request {
 
 impl Request {
     // Reads a line: the call, the text and perhaps the room, with one space between words.
-    pub(crate) fn parse(heap: Global, line: &[u8]) -> Result<Request, Flaw> {
-        let Ok(line) = from_utf8(line) else {
+    pub(crate) fn parse(heap: Global, line: &[u8]) -> Result<Request, Flaw>
+        ensures { λ r. ⌜ RequestRead (now (line .entry)) r ⌝ }
+    {
+        let first = cut_word(line);
+        let Some(rest) = first.rest else {
             return Err(Flaw::Malformed);
         };
-        let mut words = line.split(' ');
-        let (Some(call), Some(text)) = (words.next(), words.next()) else {
-            return Err(Flaw::Malformed);
-        };
-        let call = call_of(call)?;
-        let text = hex::bytes_of(heap, text.as_bytes())?;
-        let room = match words.next() {
-            Some(room) => number_of(room)?,
+        let call = call_of(first.word)?;
+        let second = cut_word(rest);
+        let text = hex::bytes_of(heap, second.word)?;
+        let room = match second.rest {
+            Some(word) => number_of(word)?,
             None => usize::MAX,
         };
-        match words.next() {
-            Some(_) => Err(Flaw::Malformed),
-            None => Ok(Request { call, text, room }),
-        }
+        Ok(Request { call, text, room })
     }
 
     // What the library answers.
@@ -87,24 +86,27 @@ impl Request {
 }
 
 // The call that the word names.
-fn call_of(word: &str) -> Result<Call, Flaw>
+fn call_of(word: &[u8]) -> Result<Call, Flaw>
     ensures { λ r. ⌜ CallRead (now (word .entry)) r ⌝ }
 {
     match word {
-        "escape" => Ok(Call::Escape),
-        "cook" => Ok(Call::Cook),
+        b"escape" => Ok(Call::Escape),
+        b"cook" => Ok(Call::Cook),
         _ => Err(Flaw::Malformed),
     }
 }
 
 // The decimal number that the word writes, with no sign.
-pub fn number_of(word: &str) -> Result<usize, Flaw>
+pub fn number_of(word: &[u8]) -> Result<usize, Flaw>
     ensures { λ r. ⌜ NumberRead (now (word .entry)) r ⌝ }
 {
-    if let [b'+', ..] = word.as_bytes() {
+    if let [b'+', ..] = word {
         return Err(Flaw::Malformed);
     }
-    match word.parse::<usize>() {
+    let Ok(digits) = from_utf8(word) else {
+        return Err(Flaw::Malformed);
+    };
+    match digits.parse::<usize>() {
         Ok(number) => Ok(number),
         Err(_) => Err(Flaw::Malformed),
     }

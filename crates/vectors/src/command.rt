@@ -30,9 +30,14 @@ impl Command {
         match words.as_slice() {
             ["lawful", text] => Ok(Command::Lawful(text_of(heap, text)?)),
             ["units", text] => Ok(Command::Units(text_of(heap, text)?)),
-            ["unit", text, k] => Ok(Command::Unit(text_of(heap, text)?, number_of(k)?)),
+            ["unit", text, k] => Ok(Command::Unit(text_of(heap, text)?, number_of(k.as_bytes())?)),
             ["join", left, right] => Command::join(heap, left, right, usize::MAX),
-            ["join", left, right, room] => Command::join(heap, left, right, number_of(room)?),
+            ["join", left, right, room] => Command::join(
+                heap,
+                left,
+                right,
+                number_of(room.as_bytes())?,
+            ),
             _ => Err(Flaw::Malformed),
         }
     }
