@@ -23,22 +23,23 @@ use Rattle.text.proofs.Seams.{lead-width}
 use Rattle.template.specs.Building.{Built}
 use Rattle.template.specs.Cooked.{Cooks, WellFormed}
 use Rattle.template.specs.Cooking.{Stands, AddsPart}
-use Rattle.template.specs.Grammar.{TemplateCharacter, dollar, escape, continuation, line-end, other, lf, cr, ls, ps, crlf, source, sources, values, AllAllowed}
-use Rattle.template.specs.Raw.{part-bytes, Holds, Reads}
+use Rattle.template.specs.Grammar.{TemplateCharacter, sources, values, AllAllowed}
+use Rattle.template.specs.Raw.{part-bytes, Reads}
 use Rattle.template.specs.Tally.{Filled}
 use Rattle.template.specs.declared.cooked.Cooked.{Cooked}
 use Rattle.template.specs.declared.raw.RawPart.{RawPart}
-use Rattle.template.specs.declared.raw.RawPart.the-variants.{Plain, Escaped, Continuation}
-use Rattle.template.proofs.Reading.{sources-append, values-append, all-allowed-append, malformed-more}
+use Rattle.template.proofs.Alike.{allowed-bytes}
+use Rattle.template.proofs.Reading.{sources-append, sources-some, values-append, all-allowed-append, malformed-more}
+use Rattle.template.proofs.Fronting.{holds-some, part-source}
 
 -- Template characters were read whose source and the rest are the raw text, and their template value is written.
 abbrev pub CookWalk : (raw rest old out : List ℕ) → Cooked → Type 0
 CookWalk raw rest old out done =
-    (ts : List TemplateCharacter) × (encodes (sources ts) ++ rest ≡ raw) × ((cs : List ℕ) → encodes cs ≡ rest → AllAllowed ts cs)
+    (ts : List TemplateCharacter) × (encodes (sources ts) ++ rest ≡ raw) × AllAllowed ts rest
     × Built old out done (values ts) × (done .len + 2 * length rest ≤ 2 * length raw)
 
 pub cook-start : (raw old : List ℕ) → CookWalk raw raw old old (record { len = 0; lead = None })
-cook-start raw old = ([], refl, λ cs e. tt, ([], tt, refl, refl, λ h. refl, refl, refl), omega arith)
+cook-start raw old = ([], refl, tt, ([], tt, refl, refl, λ h. refl, refl, refl), omega arith)
 
 -- What the next part asks for.
 pub cook-stands : (part : RawPart) (left rest : List ℕ) → Reads part left rest → Stands part
@@ -68,35 +69,12 @@ cook-step raw left rest old mid new done more part w r adds short =
           ∙ append-assoc (encodes (sources ts)) (part-bytes part) rest
           ∙ ap (λ l. encodes (sources ts) ++ l) (sym (r .3))
           ∙ w .1,
-      λ cs e.
-          all-allowed-append ts us cs
-          (w .2 (sources us ++ cs) (encodes-append (sources us) cs ∙ ap (λ l. l ++ encodes cs) (r .2 .1) ∙ ap (λ l. part-bytes part ++ l) e ∙ sym (r .3)))
-          (r .4 cs e),
+      all-allowed-append ts us rest (allowed-bytes ts (sources us) rest (subst (AllAllowed ts) (sym (part-source part left rest r)) (w .2))) (r .4),
       subst (Built old new more) (sym (values-append ts us)) (adds rest us (r .1) (r .2) old (values ts) (w .3)),
       omega (arith, w .4, short, ap length (r .3), length-append (part-bytes part) rest),
     )
 
 -- A part is not empty.
-source-some : (t : TemplateCharacter) → 0 < length (source t)
-source-some dollar = omega arith
-source-some (escape e) = omega arith
-source-some (continuation l) = omega arith
-source-some (line-end lf) = omega arith
-source-some (line-end cr) = omega arith
-source-some (line-end ls) = omega arith
-source-some (line-end ps) = omega arith
-source-some (line-end crlf) = omega arith
-source-some (other c) = omega arith
-
-sources-some : (ts : List TemplateCharacter) → 0 < length ts → 0 < length (sources ts)
-sources-some [] h = h
-sources-some (t ∷ ts) h = omega (arith, length-append (source t) (sources ts), source-some t)
-
-holds-some : (part : RawPart) (rest : List ℕ) (ts : List TemplateCharacter) → Holds part rest ts → 0 < length ts
-holds-some (Plain bytes) rest ts h = h .1
-holds-some (Escaped bytes code) rest ts h = omega (arith, ap length (h .1))
-holds-some (Continuation bytes) rest ts h = omega (arith, ap length (h .1))
-
 pub cook-less : (part : RawPart) (left rest : List ℕ) → Reads part left rest → length rest < length left
 cook-less part left rest r =
     omega (arith, ap length (r .3), length-append (part-bytes part) rest, ap length (r .2 .1), length-le-encodes (sources (r .0)), sources-some (r .0) (holds-some part rest (r .0) (r .1)))
@@ -109,7 +87,7 @@ cook-finish raw rest old out done w none =
     let whole : encodes (sources ts) ≡ raw = sym (append-nil (encodes (sources ts))) ∙ ap (λ l. encodes (sources ts) ++ l) (sym none) ∙ w .1 in
     let form : encodes (b .0) ≡ stored (values ts) = ap encodes (sym (points-units false (b .0) (b .1))) ∙ ap stored (b .2) in (
       values ts,
-      (ts, (w .2 [] (sym none), whole), refl),
+      (ts, (subst (AllAllowed ts) none (w .2), whole), refl),
       b .3 ∙ ap length form,
       subst (Filled old out) form (b .4),
     )

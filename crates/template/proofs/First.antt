@@ -143,13 +143,3 @@ unique t u rest more h k e =
     let same-first = ap first e in
     let same : t ≡ u = cc in
     (same, append-cancel-left (source t) rest more (e ∙ ap (λ v. source v ++ more) (sym same)))
-
--- A list that begins with no template character is the source of none.
-pub first-none : (cs : List ℕ) → first cs ≡ None → 0 < length cs → (ts : List TemplateCharacter) → AllAllowed ts [] → sources ts ≡ cs → ⊥
-first-none cs n l [] a e = let z = ap length e in omega arith
-first-none cs n l (t ∷ ts) a e =
-    let found = first-found t (sources ts ++ []) (a .0) in
-    let rest = append-nil (sources ts) in
-    let none : first (source t ++ sources ts) ≡ None = ap first e ∙ n in
-    let z : _≡_ {A = ℕ} 0 1 = cc in
-    omega arith

@@ -1,3 +1,4 @@
+pub mod Alike
 pub mod Back
 pub mod Backslashes
 pub mod Braces
@@ -11,6 +12,7 @@ pub mod Fronting
 pub mod Hex
 pub mod LineEnds
 pub mod Lines
+pub mod LostRuns
 pub mod Parting
 pub mod PlainRuns
 pub mod Plains

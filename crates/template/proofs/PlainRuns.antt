@@ -8,18 +8,14 @@ use native.Mathlib.Omega.{arith}
 use lib.Dec.{eqb}
 use lib.ListN.{length, getD}
 use lib.Utf8.{scalar, encode, encodes}
-use Rattle.std.proofs.shelf.Tests.{cases-bool, cond-both, eqb-true}
+use Rattle.std.proofs.shelf.Tests.{cond-both, eqb-true}
 use Rattle.std.proofs.shelf.Lists.{append-nil, append-assoc}
 use Rattle.std.proofs.shelf.Text.{encodes-append}
 use Rattle.template.specs.Grammar.{TemplateCharacter, dollar, escape, continuation, line-end, other, lf, cr, ls, ps, crlf, sources, AllAllowed, starts}
-use Rattle.template.specs.Cooked.{WellFormed}
 use Rattle.template.specs.Raw.{Unescaped}
-use Rattle.template.specs.Fronts.{Frontless, PlainAt}
-use Rattle.template.proofs.Reading.{malformed-more}
+use Rattle.template.specs.Fronts.{PlainAt}
 use Rattle.template.proofs.Runs.{Plain, run, run-source, run-allowed, after-cr, plain}
-use Rattle.template.proofs.Fronting.{malformed}
-use Rattle.template.proofs.Lines.{line-feed}
-use Rattle.template.proofs.Parting.{brace-starts, brace-front}
+use Rattle.template.proofs.Alike.{starts-front}
 
 -- The reading of plain text has no backslash.
 plain-unescaped : (c : ℕ) (ts : List TemplateCharacter) → Unescaped ts → Unescaped (plain c ∷ ts)
@@ -83,30 +79,15 @@ run-more raw rest more r p =
     let split = p .5 in (
       done ++ c ∷ [],
       r .1 ∙ ap (λ xs. encodes done ++ xs) (split ∙ ap (λ xs. xs ++ more) (sym (append-nil (encode c)))) ∙ sym (append-assoc (encodes done) (encodes (c ∷ [])) more) ∙ ap (λ xs. xs ++ more) (sym (encodes-append done (c ∷ []))),
-      plain-push done c more (plain-before done rest (c ∷ more) (λ h. brace-front c rest more split ∙ h) (r .2)) (p .1) (p .2) (p .3) (p .4),
+      plain-push done c more (plain-before done rest (c ∷ more) (λ h. starts-front (λ x. eqb x 0x7B) (λ x k. omega (arith, eqb-true x 0x7B k)) c rest more split ∙ h) (r .2)) (p .1) (p .2) (p .3) (p .4),
     )
 
--- The reading of a run, where no line feed follows.
-run-forced : (raw rest : List ℕ) (r : Run raw rest) → ((cs : List ℕ) → encodes cs ≡ rest → starts (λ c. eqb c 0x0A) cs ≡ false) → (cs : List ℕ) → encodes cs ≡ rest → AllAllowed (run (r .0)) cs
-run-forced raw rest r end cs e = run-allowed (r .0) cs (plain-before (r .0) rest cs (λ h. brace-starts cs rest e ∙ h) (r .2)) (end cs e)
-
+-- The reading of a run, on its own.
 run-alone : (raw rest : List ℕ) (r : Run raw rest) → AllAllowed (run (r .0)) []
 run-alone raw rest r = run-allowed (r .0) [] (plain-before (r .0) rest [] (λ _. refl) (r .2)) refl
 
-run-bytes : (raw rest : List ℕ) (r : Run raw rest) → raw ≡ encodes (sources (run (r .0))) ++ rest
+pub run-bytes : (raw rest : List ℕ) (r : Run raw rest) → raw ≡ encodes (sources (run (r .0))) ++ rest
 run-bytes raw rest r = r .1 ∙ ap (λ cs. encodes cs ++ rest) (sym (run-source (r .0)))
-
--- Where nothing goes on behind a run, all is malformed.
-no-feed : (rest : List ℕ) → Frontless rest → (cs : List ℕ) → encodes cs ≡ rest → starts (λ c. eqb c 0x0A) cs ≡ false
-no-feed rest bad [] e = refl
-no-feed rest bad (c ∷ cs) e = elim (cases-bool (eqb c 0x0A)) [
-  | inl h ↦ absurd (bad (line-end lf) cs tt (ap (λ x. encodes (x ∷ cs)) (sym (eqb-true c 0x0A h)) ∙ e))
-  | inr h ↦ h
-]
-
-pub run-lost : (raw rest : List ℕ) → Run raw rest → 0 < length rest → Frontless rest → WellFormed raw → ⊥
-run-lost raw rest r some bad =
-    malformed-more (run (r .0)) rest raw (sym (run-bytes raw rest r)) (run-forced raw rest r (no-feed rest bad)) (malformed rest some bad)
 
 -- The end of a run: nothing, or a backslash.
 abbrev pub Ends : List ℕ → Type 0
@@ -118,7 +99,7 @@ ends-feed (b ∷ rest) (inl e) = absurd (omega (arith, ap length e))
 ends-feed (b ∷ rest) (inr e) = ap (λ x. eqb x 0x0A) (eqb-true b 0x5C e)
 
 -- A run that stops behind no character began with a backslash or with nothing.
-ends-short : (raw : List ℕ) → Ends raw → 0 < length raw → (getD raw 0 0 ≡ 0x5C → ⊥) → ⊥
+pub ends-short : (raw : List ℕ) → Ends raw → 0 < length raw → (getD raw 0 0 ≡ 0x5C → ⊥) → ⊥
 ends-short [] e l h = omega arith
 ends-short (b ∷ raw) (inl e) l h = omega (arith, ap length e)
 ends-short (b ∷ raw) (inr e) l h = h (eqb-true b 0x5C e)
@@ -134,11 +115,19 @@ run-some raw rest r e l h = go (r .0) (r .1)
     go [] b = absurd (ends-short raw (subst Ends (sym b) e) l h)
     go (c ∷ cs) b = some-read (run (c ∷ cs)) c cs (run-source (c ∷ cs))
 
-pub run-found : (raw rest : List ℕ) → Run raw rest → Ends rest → 0 < length raw → (getD raw 0 0 ≡ 0x5C → ⊥) → (ts : List TemplateCharacter) × (Unescaped ts × (0 < length ts) × Ends rest) × (raw ≡ encodes (sources ts) ++ rest) × AllAllowed ts [] × ((cs : List ℕ) → encodes cs ≡ rest → AllAllowed ts cs)
+-- No character of a run is a backslash.
+pub run-slash : (raw rest : List ℕ) (r : Run raw rest) (cs : List ℕ) (d : ℕ) (ds : List ℕ) → sources (run (r .0)) ≡ cs ++ d ∷ ds → eqb d 0x5C ≡ false
+run-slash raw rest r cs d ds e = go cs (subst (λ xs. Plain xs rest) (sym (run-source (r .0)) ∙ e) (r .2))
+  where
+    go : (xs : List ℕ) → Plain (xs ++ d ∷ ds) rest → eqb d 0x5C ≡ false
+    go [] p = p .2
+    go (x ∷ xs) p = go xs (p .4)
+
+pub run-found : (raw rest : List ℕ) → Run raw rest → Ends rest → 0 < length raw → (getD raw 0 0 ≡ 0x5C → ⊥) → (ts : List TemplateCharacter) × (Unescaped ts × (0 < length ts) × Ends rest) × (raw ≡ encodes (sources ts) ++ rest) × AllAllowed ts [] × AllAllowed ts rest
 run-found raw rest r e l h = (
   run (r .0),
   (run-unescaped (r .0), run-some raw rest r e l h, e),
   run-bytes raw rest r,
   run-alone raw rest r,
-  run-forced raw rest r (λ cs k. line-feed cs rest k ∙ ends-feed rest e),
+  run-allowed (r .0) rest (r .2) (ends-feed rest e),
 )

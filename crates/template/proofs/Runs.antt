@@ -143,14 +143,6 @@ pub normal-after : (cs : List ℕ) → starts (λ c. eqb c 0x0A) cs ≡ false �
 normal-after [] h = refl
 normal-after (c ∷ cs) h = ap (λ xs. cond (eqb c 0x0D) (0x0A ∷ normal true cs) xs) (cond-false (eqb c 0x0A) _ _ h)
 
--- The value of plain text: its units, with the line ends as LF.
-pub run-values : (cs : List ℕ) → values (run cs) ≡ units (normal false cs)
-run-values =
-    run-cases (λ cs ts. values ts ≡ units (normal false cs)) refl
-    (λ c cs e h. ap₂ (λ (xs ys : List ℕ). xs ++ ys) (plain-value c) h ∙ ap units (sym (cond-false (eqb c 0x0D) (0x0A ∷ normal true cs) (c ∷ normal false cs) e)))
-    (λ cs e h. ap (λ xs. 0x0A ∷ xs) (h ∙ ap units (sym (normal-after cs e))))
-    (λ cs h. ap (λ xs. 0x0A ∷ xs) h)
-
 -- A byte or character of 128 or more is left as it is.
 normal-high : (b : Bool) (x : ℕ) (xs : List ℕ) → 128 ≤ x → normal b (x ∷ xs) ≡ x ∷ normal false xs
 normal-high b x xs h =

@@ -11,7 +11,7 @@ use Rattle.std.specs.declared.option.Option.{Option}
 use Rattle.std.specs.declared.option.Option.the-variants.{Some, None}
 use Rattle.template.specs.Grammar.{LineEnd, Escape, TemplateCharacter, escape, source, line-source, line-allowed, escape-code, Allowed, HexDigits, mv, starts}
 use Rattle.template.specs.Cooked.{WellFormed}
-use Rattle.template.specs.Raw.{part-bytes, Reads}
+use Rattle.template.specs.Raw.{part-bytes, Reads, Partless}
 use Rattle.template.specs.declared.raw.RawPart.{RawPart}
 use Rattle.template.specs.declared.raw.escapes.EscapeCode.{EscapeCode}
 
@@ -21,11 +21,11 @@ Unreadable bytes = (c : ℕ) (rest : List ℕ) → scalar c ≡ true → bytes �
 
 -- No template character stands at the front of the bytes.
 abbrev pub Frontless : List ℕ → Type 0
-Frontless raw = (t : TemplateCharacter) (cs : List ℕ) → Allowed t cs → encodes (source t ++ cs) ≡ raw → ⊥
+Frontless raw = (t : TemplateCharacter) (rest : List ℕ) → Allowed t rest → encodes (source t) ++ rest ≡ raw → ⊥
 
--- The template character t stands at the front of the bytes: on its own, and before whatever `rest` spells.
+-- The template character t stands at the front of the bytes: on its own, and before `rest`.
 abbrev pub Fronts : List ℕ → TemplateCharacter → List ℕ → Type 0
-Fronts raw t rest = (raw ≡ encodes (source t) ++ rest) × Allowed t [] × ((cs : List ℕ) → encodes cs ≡ rest → Allowed t cs)
+Fronts raw t rest = (raw ≡ encodes (source t) ++ rest) × Allowed t [] × Allowed t rest
 
 -- The number that hexadecimal digits write, where one above 0x10FFFF is 0x110000.
 abbrev pub capped : List ℕ → ℕ
@@ -47,7 +47,7 @@ EscapesTo raw (Some r) = StandsFor raw (r .code) (now (r .rest))
 
 -- The character c before `rest` begins a line end, and `more` follows it.
 abbrev pub EndsLine : ℕ → List ℕ → List ℕ → Type 0
-EndsLine c rest more = (l : LineEnd) × (encode c ++ rest ≡ encodes (line-source l) ++ more) × line-allowed l [] × ((cs : List ℕ) → encodes cs ≡ more → line-allowed l cs)
+EndsLine c rest more = (l : LineEnd) × (encode c ++ rest ≡ encodes (line-source l) ++ more) × line-allowed l [] × line-allowed l more
 
 -- A character without a backslash stands at the front of the bytes, before `rest`: no ` and no $ before {.
 abbrev pub PlainAt : List ℕ → List ℕ → Type 0
@@ -57,5 +57,5 @@ PlainAt bytes rest =
 
 -- The part at the front of the bytes.
 abbrev pub Parts : List ℕ → Option RawPart → Type 0
-Parts raw None = WellFormed raw → ⊥
+Parts raw None = (WellFormed raw → ⊥) × Partless raw
 Parts raw (Some part) = Reads part raw (drop (length (part-bytes part)) raw)

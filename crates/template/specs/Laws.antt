@@ -20,9 +20,9 @@ EscapeExamples = (raw-of (0x61 ∷ 0x24 ∷ []) ≡ 0x61 ∷ 0x5C ∷ 0x24 ∷ [
 abbrev pub CookingIsOne : Type 0
 CookingIsOne = (raw us vs : List ℕ) → Cooks raw us → Cooks raw vs → us ≡ vs
 
--- Raw text whose front reads as the template characters ts, whatever code points the rest spells, cooks to the value
--- of ts and then what the rest cooks to.
+-- Raw text whose front reads as the template characters ts, before the rest, cooks to the value of ts and then what
+-- the rest cooks to.
 abbrev pub WholeCooksAsItsParts : Type 0
 WholeCooksAsItsParts =
     (front rest : List ℕ) (ts : List TemplateCharacter) (us : List ℕ) → encodes (sources ts) ≡ front
-    → ((cs : List ℕ) → encodes cs ≡ rest → AllAllowed ts cs) → Cooks rest us → Cooks (front ++ rest) (values ts ++ us)
+    → AllAllowed ts rest → Cooks rest us → Cooks (front ++ rest) (values ts ++ us)

@@ -7,7 +7,6 @@ use Prim.Native.Nat.{ℕ, _<_}
 use denote.Ref.{now}
 use lib.Dec.{eqb}
 use lib.ListN.{length}
-use lib.Utf8.{encodes}
 use Rattle.std.specs.declared.option.Option.{Option}
 use Rattle.std.specs.declared.option.Option.the-variants.{Some, None}
 use Rattle.std.specs.declared.result.Result.{Result}
@@ -45,15 +44,19 @@ Holds (Plain bytes) rest ts = Unescaped ts × (0 < length ts) × ((rest ≡ []) 
 Holds (Escaped bytes code) rest ts = (e : Escape) × (ts ≡ escape e ∷ []) × (escape-code e ≡ code)
 Holds (Continuation bytes) rest ts = (l : LineEnd) × (ts ≡ continuation l ∷ [])
 
--- The part stands in front of the rest of what is left. It is well formed on its own, and in front of whatever
--- code points the rest spells.
+-- The part stands in front of the bytes that are left. It is well formed on its own and before them: every lookahead
+-- asks for an ASCII character, and bytes in UTF-8 begin with one exactly where the text does.
 abbrev pub Reads : RawPart → List ℕ → List ℕ → Type 0
 Reads part left rest =
     (ts : List TemplateCharacter) × Holds part rest ts × Spells (part-bytes part) ts × (left ≡ part-bytes part ++ rest)
-    × ((cs : List ℕ) → encodes cs ≡ rest → AllAllowed ts cs)
+    × AllAllowed ts rest
 
--- One step: the next part, the end, or a refusal where what is left is malformed.
+-- No part can be read at the front of the bytes.
+abbrev pub Partless : List ℕ → Type 0
+Partless raw = (part : RawPart) (rest : List ℕ) → Reads part raw rest → ⊥
+
+-- One step: the next part, the end, or a refusal where no part can be read and so what is left is malformed.
 abbrev pub NextPart : RawReader → RawReader → Result (Option RawPart) Fault → Type 0
 NextPart s t (Ok (Some part)) = Reads part (left-of s) (left-of t)
 NextPart s t (Ok None) = (left-of s ≡ []) × (left-of t ≡ [])
-NextPart s t (Err e) = Refuses (((12, 0), WellFormed (left-of s)) ∷ []) e × (left-of t ≡ left-of s)
+NextPart s t (Err e) = Refuses (((12, 0), WellFormed (left-of s)) ∷ []) e × Partless (left-of s) × (left-of t ≡ left-of s)

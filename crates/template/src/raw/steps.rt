@@ -40,7 +40,7 @@ impl<'a> RawReader<'a> {
         RawReader { rest: raw }
     }
 
-    // The next part, or None at the end. Where what is left is malformed, the step may be refused, and nothing is read.
+    // The next part, or None at the end. Where no part can be read, the step is refused, and nothing is read.
     pub fn next(&mut self) -> Result<Option<RawPart<'a>>, Fault>
         ensures { λ r. ⌜ NextPart (now (self .entry)) (now (self .exit)) r ⌝ }
     {

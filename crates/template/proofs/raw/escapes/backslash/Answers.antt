@@ -5,14 +5,14 @@ use lib.Utf8.{encodes}
 use Rattle.template.specs.Grammar.{escape, continuation, source}
 use Rattle.template.specs.Fronts.{Frontless}
 use Rattle.template.specs.declared.raw.RawPart.the-variants.{Escaped, Continuation}
-use Rattle.template.proofs.Fronting.{first-rest, malformed}
+use Rattle.template.proofs.Fronting.{first-rest, unparted}
 use Rattle.template.proofs.Parting.{parted-one, slash-split, line-front, slash-unread}
 use Rattle.template.proofs.raw.escapes.backslash.Needs as need
 
 pub returns-in-rest : need.returns-in-rest
 returns-in-rest c =
     let raw = c .args .raw .now in
-    malformed raw (c .pre .0) (subst Frontless (sym (first-rest raw 0x5C (c .pre .0) (c .pre .1))) (slash-unread (take (length raw - 1) (drop 1 raw)) (c .in-rest .ensures tt)))
+    unparted raw (c .pre .0) (subst Frontless (sym (first-rest raw 0x5C (c .pre .0) (c .pre .1))) (slash-unread (take (length raw - 1) (drop 1 raw)) (c .in-rest .ensures tt)))
 
 pub before-requires : need.before-requires
 before-requires c κs =
@@ -36,7 +36,7 @@ pub returns-in-rest-escape : need.returns-in-rest-escape
 returns-in-rest-escape c =
     let raw = c .args .raw .now in
     let split = slash-split raw (c .in-Some .rest .now) (c .in-Some .c) (c .pre .0) (c .pre .1) (c .in-Some .ensures tt .1) in
-    malformed raw (c .pre .0) (subst Frontless (sym split) (c .in-rest-escape .ensures tt))
+    unparted raw (c .pre .0) (subst Frontless (sym split) (c .in-rest-escape .ensures tt))
 
 pub before-requires-2 : need.before-requires-2
 before-requires-2 c κs =

@@ -11,7 +11,8 @@ use Rattle.std.proofs.shelf.Text.{length-encode, width-bounds}
 use Rattle.template.specs.declared.raw.RawPart.the-variants.{Plain}
 use Rattle.template.proofs.Fronting.{starts-true}
 use Rattle.template.proofs.Parting.{parted}
-use Rattle.template.proofs.PlainRuns.{Ends, run-none, run-more, run-lost, run-found}
+use Rattle.template.proofs.PlainRuns.{Ends, run-none, run-more, run-found}
+use Rattle.template.proofs.LostRuns.{run-lost}
 use Rattle.template.proofs.raw.plain.plain.Needs as need
 use Rattle.template.proofs.raw.plain.plain.Needs.{then-loop-rest-test·else-rest-ne92, else-loop-rest-test}
 
@@ -22,7 +23,7 @@ pub returns-in-rest : need.returns-in-rest
 returns-in-rest c =
     let rest = c .loop-rest .rest .now in
     let some : 0 < length rest = omega (arith, eqb-false (length rest) 0 (sym (c .loop-rest-test .ensures tt))) in
-    run-lost (c .args .raw .now) rest (c .loop-rest .inv) some (c .in-rest .ensures tt)
+    run-lost (c .args .raw .now) rest (c .loop-rest .inv) (c .pre .1) some (c .if-rest-ne92 .taken) (c .in-rest .ensures tt)
 
 pub loop-rest-less : need.loop-rest-less
 loop-rest-less c =
