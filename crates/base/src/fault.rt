@@ -56,11 +56,8 @@ impl Fault {
     {
         match self {
             Fault::BadRecord(node) | Fault::BadLink(node) => node,
-            Fault::BadHeader
-            | Fault::BadSizes
-            | Fault::StoresTooSmall
-            | Fault::Malformed
-            | Fault::Overfull => 0,
+            Fault::BadHeader | Fault::BadSizes | Fault::StoresTooSmall => 0,
+            Fault::Malformed | Fault::Overfull => 0,
         }
     }
 }

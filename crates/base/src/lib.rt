@@ -1,4 +1,7 @@
 // What every layer shares: the fault that a refusal answers with, and the one append.
+
+#![tactic(auto)]
+
 mod fault;
 mod run;
 

@@ -6,6 +6,9 @@
 //
 // A case that is not refused is answered `loaded; TREE..; end ROOT 0 NODES ENTRIES BYTES`. Every other line is answered as
 // the protocol for texts has it.
+
+#![tactic(auto)]
+
 mod case;
 mod memory;
 mod printing;

@@ -1,4 +1,7 @@
 // The file of a payoff: its header, its records, and loading it into stores.
+
+#![tactic(auto)]
+
 mod laws;
 mod loaded;
 mod record;

@@ -4,6 +4,9 @@
 //
 // The answer is the 256 verdicts, each with how often it came in a row, as in `1@0*1 ok*1 1@0*254`. A verdict is `ok`, or
 // the fault's number and node.
+
+#![tactic(auto)]
+
 mod damage;
 
 use cases::answer_line;

@@ -1,4 +1,7 @@
 // What a payoff means: the definitions stand in specs/, and the laws of them are the contracts here.
+
+#![tactic(auto)]
+
 mod engine;
 mod laws;
 

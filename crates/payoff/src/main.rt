@@ -1,5 +1,8 @@
 // Payoffs in files, texts and raw template text: what the library does, on a quote's payoff, on files, on one label, or
 // for each request of a script.
+
+#![tactic(auto)]
+
 mod explained;
 mod files;
 mod label;

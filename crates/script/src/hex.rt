@@ -25,7 +25,7 @@ impl fmt::Display for Hex<'_> {
 }
 
 fn write_byte<W: fmt::Write>(f: &mut fmt::Formatter<W>, byte: u8) -> fmt::Result
-    ensures { WritesOnOk write_str_gives f.old result (two_digits byte) f.new }
+    ensures { WritesOnOk W.write_str_gives f.old result (two_digits byte) f.new }
 {
     f.write_char(digit(byte / 16))?;
     f.write_char(digit(byte % 16))

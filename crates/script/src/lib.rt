@@ -5,6 +5,9 @@
 //
 // HEX is bytes in lower-case hexadecimal, nothing at all where there are none; ROOM is the size of the output in bytes.
 // The answer is `ok HEX`, `refused NUMBER layer LAYER node NODE`, or `malformed` where the line is no request.
+
+#![tactic(auto)]
+
 ghost use Rattle.script.specs.Replies.{Replies};
 
 mod answer;

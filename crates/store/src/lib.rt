@@ -1,4 +1,7 @@
 // The memory that the caller lends: node records, list entries and text bytes, each a store of its own.
+
+#![tactic(auto)]
+
 mod store;
 mod stores;
 

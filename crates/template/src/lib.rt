@@ -1,4 +1,7 @@
 // Template text: escaping, the raw reader, cooking, and comparing with cooked text.
+
+#![tactic(auto)]
+
 mod comparing;
 mod cooked;
 mod cooking;

@@ -1,4 +1,7 @@
 // Texts in stored form: lists of 16-bit units, kept as UTF-8 with a lone surrogate in three bytes.
+
+#![tactic(auto)]
+
 mod character;
 mod decode;
 mod encoded;

@@ -1,4 +1,7 @@
 // The tree of a payoff: the records of its nodes, what stored records mean, and the laws of changing them.
+
+#![tactic(auto)]
+
 mod laws;
 mod node;
 mod role;

@@ -7,6 +7,9 @@
 //     cooks RAWHEX HEX      whether the raw text is well formed and cooks to the text
 //
 // The answers are `yes` and `no`; `ok N`; `ok UUUU`, or `none` past the end; `ok HEX`; and the protocol's own.
+
+#![tactic(auto)]
+
 mod answer;
 mod command;
 

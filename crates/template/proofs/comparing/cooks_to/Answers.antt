@@ -9,22 +9,22 @@ loop-next-init c =
     subst (λ left. MatchWalk c.args.raw.now c.args.cooked.now left (record { rest = c.args.cooked; lead = None })) (sym c.new-reader.ensures)
     (match_start c.args.raw.now c.args.cooked)
 
-pub returns-in-default-next : goal.returns-in-default-next
-returns-in-default-next c =
+pub returns-in_default-next : goal.returns-in_default-next
+returns-in_default-next c =
     let left = c.loop-next.reader in
-    let end = subst (λ o. NextPart left c.next.new.self (Ok o)) c.in-default-next.is c.in-Ok.ensures in
-    match_end c.args.raw.now c.args.cooked.now (left_of left) c.loop-next.left c.is-matched.result c.loop-next.invariant end.0 c.is-matched.ensures
+    let end = subst (λ o. NextPart left c.next.new.self (Ok o)) c.in_default-next.is c.in-Ok.ensures in
+    match_end c.args.raw.now c.args.cooked.now (left_of left) c.loop-next.left c.is_matched.result c.loop-next.invariant end.0 c.is_matched.ensures
 
-pub returns-in-default-match-part : goal.returns-in-default-match-part
-returns-in-default-match-part c =
+pub returns-in_default-match_part : goal.returns-in_default-match_part
+returns-in_default-match_part c =
     let left = c.loop-next.reader in
     let right = c.next.new.self in
     match_none c.args.raw.now c.args.cooked.now (left_of left) (left_of right) c.loop-next.left c.in-Some.part c.loop-next.invariant
     (part_read left right c.in-Ok.next c.in-Some.part c.in-Some.is c.in-Ok.ensures)
-    c.in-default-match-part.ensures
+    c.in_default-match_part.ensures
 
-pub match-part-requires : goal.match-part-requires
-match-part-requires c =
+pub match_part-requires : goal.match_part-requires
+match_part-requires c =
     let left = c.loop-next.reader in
     let right = c.next.new.self in
     record {
@@ -42,11 +42,11 @@ pub loop-next-preserved : goal.loop-next-preserved
 loop-next-preserved c =
     let left = c.loop-next.reader in
     let right = c.next.new.self in
-    match_step c.args.raw.now c.args.cooked.now (left_of left) (left_of right) c.loop-next.left c.in-Some-match-part.more c.in-Some.part
+    match_step c.args.raw.now c.args.cooked.now (left_of left) (left_of right) c.loop-next.left c.in-Some-match_part.more c.in-Some.part
     c.loop-next.invariant
     (part_read left right c.in-Ok.next c.in-Some.part c.in-Some.is c.in-Ok.ensures)
-    c.in-Some-match-part.ensures
+    c.in-Some-match_part.ensures
 
 pub returns : goal.returns
 returns c =
-    match_refuse c.args.raw.now c.args.cooked.now (left_of c.loop-next.reader) c.loop-next.left c.in-default.field-0 c.loop-next.invariant c.in-default.ensures.0
+    match_refuse c.args.raw.now c.args.cooked.now (left_of c.loop-next.reader) c.loop-next.left c.in_default.field-0 c.loop-next.invariant c.in_default.ensures.0

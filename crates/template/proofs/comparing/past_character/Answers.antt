@@ -6,5 +6,5 @@ use Rattle.std.proofs.lemmas.Bool.Decides.{Decides-eqb}
 
 pub returns : goal.returns
 returns c =
-    subst (λ front. Past c.args.bytes.now front c.strip-prefix.result) (c.as-bytes.ensures ∙ c.in-Some.ensures)
-    (strip_prefix_is Decides-eqb c.args.bytes.now c.as-bytes.result.now c.strip-prefix.result c.strip-prefix.ensures.cases)
+    subst (λ front. Past c.args.bytes.now front c.strip_prefix.result) (c.as_bytes.ensures ∙ c.in-Some.ensures)
+    (strip_prefix_is Decides-eqb c.args.bytes.now c.as_bytes.result.now c.strip_prefix.result c.strip_prefix.ensures.cases)

@@ -7,6 +7,6 @@ use Rattle.template.proofs.cooking.cook.Goals as goal
 
 pub returns : goal.returns
 returns c =
-    let fits : c.in-ok-need.need ≤ length c.args.out.now = omega (arith, c.if-need-out.false) in
-    both (Cooks c.args.raw.now) stored (cooks_once c.args.raw.now) c.cook-onto.new.out c.args.out.now c.cook-onto-2.new.out c.in-ok-need.need c.cook-onto-2.result
-    c.in-ok-need.ensures fits c.cook-onto-2.ensures
+    let fits : c.in_ok-need.need ≤ length c.args.out.now = omega (arith, c.if-need-out.false) in
+    both (Cooks c.args.raw.now) stored (cooks_once c.args.raw.now) c.cook_onto.new.out c.args.out.now c.cook_onto-2.new.out c.in_ok-need.need c.cook_onto-2.result
+    c.in_ok-need.ensures fits c.cook_onto-2.ensures

@@ -9,20 +9,20 @@ loop-part-init c =
     subst (λ left. CookWalk c.args.raw.now left c.args.out.now c.args.out.now (record { len = 0; lead = None })) (sym c.new-reader.ensures)
     (cook_start c.args.raw.now c.args.out.now)
 
-pub returns-in-err-part : goal.returns-in-err-part
-returns-in-err-part c =
-    let p = err_from_is_err_and c.from-residual.result c.from-residual.ensures.1 in
+pub returns-in_err-part : goal.returns-in_err-part
+returns-in_err-part c =
+    let p = err_from_is_err_and c.from_residual.result c.from_residual.ensures.1 in
     rw (p.1, p.2)
-    (cook_refuse c.args.raw.now (left_of c.loop-part.reader) c.args.out.now c.loop-part.out c.loop-part.done c.in-err-part.field-0.0 c.loop-part.invariant c.in-err-part.ensures.0)
+    (cook_refuse c.args.raw.now (left_of c.loop-part.reader) c.args.out.now c.loop-part.out c.loop-part.done c.in_err-part.field-0.0 c.loop-part.invariant c.in_err-part.ensures.0)
 
-pub cook-part-done-requires : goal.cook-part-done-requires
-cook-part-done-requires c =
+pub cook_part-done-requires : goal.cook_part-done-requires
+cook_part-done-requires c =
     let raw = c.args.raw.now in
     let left = c.loop-part.reader in
     let right = c.next.new.self in
     let part = c.in-Some.part in
     let inv = c.loop-part.invariant in
-    let r = part_read left right c.in-ok-part.field-0 part c.in-Some.is c.in-ok-part.ensures in
+    let r = part_read left right c.in_ok-part.field-0 part c.in-Some.is c.in_ok-part.ensures in
     record {
       part = cook_stands part (left_of left) (left_of right) r;
       room = cook_room raw (left_of left) (left_of right) c.args.out.now c.loop-part.out c.loop-part.done part inv r (omega arith);
@@ -32,21 +32,21 @@ cook-part-done-requires c =
 pub loop-part-smaller : goal.loop-part-smaller
 loop-part-smaller c =
     cook_less c.in-Some.part (left_of c.loop-part.reader) (left_of c.next.new.self)
-    (part_read c.loop-part.reader c.next.new.self c.in-ok-part.field-0 c.in-Some.part c.in-Some.is c.in-ok-part.ensures)
+    (part_read c.loop-part.reader c.next.new.self c.in_ok-part.field-0 c.in-Some.part c.in-Some.is c.in_ok-part.ensures)
 
 pub loop-part-preserved : goal.loop-part-preserved
 loop-part-preserved c =
     let left = c.loop-part.reader in
     let right = c.next.new.self in
     let part = c.in-Some.part in
-    cook_step c.args.raw.now (left_of left) (left_of right) c.args.out.now c.loop-part.out c.cook-part-done.new.out c.loop-part.done c.cook-part-done.result part
+    cook_step c.args.raw.now (left_of left) (left_of right) c.args.out.now c.loop-part.out c.cook_part-done.new.out c.loop-part.done c.cook_part-done.result part
     c.loop-part.invariant
-    (part_read left right c.in-ok-part.field-0 part c.in-Some.is c.in-ok-part.ensures)
-    c.cook-part-done.ensures.adds c.cook-part-done.ensures.short
+    (part_read left right c.in_ok-part.field-0 part c.in-Some.is c.in_ok-part.ensures)
+    c.cook_part-done.ensures.adds c.cook_part-done.ensures.short
 
 pub returns : goal.returns
 returns c =
     let left = c.loop-part.reader in
     let right = c.next.new.self in
-    let end = subst (λ o. NextPart left right (Ok o)) c.in-default.is c.in-ok-part.ensures in
+    let end = subst (λ o. NextPart left right (Ok o)) c.in_default.is c.in_ok-part.ensures in
     cook_finish c.args.raw.now (left_of left) c.args.out.now c.loop-part.out c.loop-part.done c.loop-part.invariant end.0

@@ -11,10 +11,10 @@ push-requires c =
 
 pub returns-in-Plain : goal.returns-in-Plain
 returns-in-Plain c =
-    let g = c.put-lines.ensures in
+    let g = c.put_lines.ensures in
     let run = c.in-Plain.run' in
     record {
-      adds = plain_part c.args.out.now c.put-lines.new.out c.args.done c.args.part run c.put-lines.result c.in-Plain.is g;
+      adds = plain_part c.args.out.now c.put_lines.new.out c.args.done c.args.part run c.put_lines.result c.in-Plain.is g;
       short = omega (arith, g.0, normal_short false run.now, ap (λ p. length (part_bytes p)) c.in-Plain.is);
     }
 

@@ -5,22 +5,22 @@ use Rattle.template.proofs.cooking.push.Goals as goal
 
 pub returns-in-Some : goal.returns-in-Some
 returns-in-Some c =
-    let put = c.put-character.ensures in
+    let put = c.put_character.ensures in
     let both = c.in-Some.both in
     record {
       adds =
-          adds_pair c.args.out.now c.put-character.new.out c.args.done c.args.code both c.put-character.result
+          adds_pair c.args.out.now c.put_character.new.out c.args.done c.args.code both c.put_character.result
           (omega arith) c.in-Some.ensures put;
       short = omega (arith, put.0, length-encode both, len_utf8_bounds both);
     }
 
 pub returns-in-None : goal.returns-in-None
 returns-in-None c =
-    let put = c.put-character-in-None.ensures in
+    let put = c.put_character-in-None.ensures in
     let code = c.args.code in
     record {
       adds =
-          adds_one c.args.out.now c.put-character-in-None.new.out c.args.done code c.put-character-in-None.result c.leading-of.result
-          (omega arith) c.requires.code c.in-None.ensures c.leading-of.ensures put;
+          adds_one c.args.out.now c.put_character-in-None.new.out c.args.done code c.put_character-in-None.result c.leading_of.result
+          (omega arith) c.requires.code c.in-None.ensures c.leading_of.ensures put;
       short = omega (arith, put.0, length-encode code, len_utf8_bounds code);
     }

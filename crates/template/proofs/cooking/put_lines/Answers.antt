@@ -1,7 +1,7 @@
 use Rattle.std.proofs.Common.{[], ◌∷◌}
 use Rattle.template.proofs.LineEnds.{put_as, lined_put, lined_skip, lined_all}
 use Rattle.template.proofs.cooking.put_lines.Goals as goal
-use Rattle.template.proofs.cooking.put_lines.Goals.{in-Some, in-default}
+use Rattle.template.proofs.cooking.put_lines.Goals.{in-Some, in_default}
 
 pub loop-byte-preserved : goal.loop-byte-preserved
 loop-byte-preserved c =
@@ -14,14 +14,14 @@ loop-byte-preserved c =
     let k = c.loop-byte.byte-index in
     let low = c.loop-byte-test.true in
     let inv = c.loop-byte.invariant in
-    let new = c.match-line-byte.out in
-    let end = c.match-line-byte.len in
-    elim c.match-line-byte.branch [
+    let new = c.match-line_byte.out in
+    let end = c.match-line_byte.len in
+    elim c.match-line_byte.branch [
       | in-Some w ↦
           let x = w.in-Some.value in
-          lined_put old run at out len cr k low inv new end x w.in-Some.ensures c.match-line-byte.auto.out
+          lined_put old run at out len cr k low inv new end x w.in-Some.ensures c.match-line_byte.auto.out
           (put_as out new w.put-len.new.out (x ∷ []) len end w.put-len.result w.out-is w.len-is w.put-len.ensures)
-      | in-default w ↦ lined_skip old run at out len cr k low inv new end w.in-default.ensures w.out-is w.len-is
+      | in_default w ↦ lined_skip old run at out len cr k low inv new end w.in_default.ensures w.out-is w.len-is
     ]
 
 pub returns : goal.returns

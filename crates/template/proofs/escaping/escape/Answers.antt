@@ -7,6 +7,6 @@ use Rattle.template.proofs.escaping.escape.Goals as goal
 
 pub returns : goal.returns
 returns c =
-    let fits : c.in-ok-need.need ≤ length c.args.out.now = omega (arith, c.if-need-out.false) in
-    both (Stores c.args.text.now) raw_of (stored_once c.args.text.now) c.escape-onto.new.out c.args.out.now c.escape-onto-2.new.out c.in-ok-need.need c.escape-onto-2.result
-    c.in-ok-need.ensures fits c.escape-onto-2.ensures
+    let fits : c.in_ok-need.need ≤ length c.args.out.now = omega (arith, c.if-need-out.false) in
+    both (Stores c.args.text.now) raw_of (stored_once c.args.text.now) c.escape_onto.new.out c.args.out.now c.escape_onto-2.new.out c.in_ok-need.need c.escape_onto-2.result
+    c.in_ok-need.ensures fits c.escape_onto-2.ensures

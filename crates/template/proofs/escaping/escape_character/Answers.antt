@@ -11,7 +11,7 @@ put-requires-in-Some-eq13 c = omega (arith, some_byte c.args.c.code, ap length c
 pub put-requires-in-None : goal.put-requires-in-None
 put-requires-in-None c =
     let h = lone_range c.args.c.code c.requires.code c.in-None.ensures.cases in
-    omega (arith, ap length c.surrogate-escape.ensures, three_bytes c.args.c.code h.0 h.1, ap length c.requires.bytes, c.requires.room)
+    omega (arith, ap length c.surrogate_escape.ensures, three_bytes c.args.c.code h.0 h.1, ap length c.requires.bytes, c.requires.room)
 
 pub returns-in-Some-eq92 : goal.returns-in-Some-eq92
 returns-in-Some-eq92 c =
@@ -29,5 +29,5 @@ returns-in-Some-eq13 c =
 pub returns-in-None : goal.returns-in-None
 returns-in-None c =
     let h = lone_range c.args.c.code c.requires.code c.in-None.ensures.cases in
-    put_escaped c.args.out.now c.args.at c.surrogate-escape.result c.put-in-None.new.out c.put-in-None.result c.args.c.code
-    (surrogate_bytes c.args.c.code h.0 h.1 ∙ sym c.surrogate-escape.ensures) c.put-in-None.ensures
+    put_escaped c.args.out.now c.args.at c.surrogate_escape.result c.put-in-None.new.out c.put-in-None.result c.args.c.code
+    (surrogate_bytes c.args.c.code h.0 h.1 ∙ sym c.surrogate_escape.ensures) c.put-in-None.ensures

@@ -4,37 +4,37 @@ use Rattle.text.specs.Join.{Meets}
 use Rattle.text.proofs.Seams.{joins_apart, joins_pair, cuts}
 use Rattle.text.proofs.joining.join.Goals as goal
 
-pub returns-in-default : goal.returns-in-default
-returns-in-default c =
+pub returns-in_default : goal.returns-in_default
+returns-in_default c =
     let left = c.args.left.now in
     let right = c.args.right.now in
     joins_apart left right c.args.out.now c.write.new.out c.write.result
-    (subst (λ o. Meets left right (Ok o)) c.in-default.is c.in-ok-code.ensures) c.write.ensures
+    (subst (λ o. Meets left right (Ok o)) c.in_default.is c.in_ok-code.ensures) c.write.ensures
 
 -- The pair that the two texts make lies within them.
-pair : (c : goal.After-write-arg-2·1) → Meets c.args.left.now c.args.right.now (Ok (Some c.in-Some.code))
-pair c = subst (λ o. Meets c.args.left.now c.args.right.now (Ok o)) c.in-Some.is c.in-ok-code.ensures
+pair : (c : goal.After-write-arg-2-1) → Meets c.args.left.now c.args.right.now (Ok (Some c.in-Some.code))
+pair c = subst (λ o. Meets c.args.left.now c.args.right.now (Ok o)) c.in-Some.is c.in_ok-code.ensures
 
-pub overflow-sub-left : goal.overflow-sub-left
-overflow-sub-left c = (cuts c.args.left.now c.args.right.now c.in-Some.code (pair c)).0
+pub overflow_sub-left : goal.overflow_sub-left
+overflow_sub-left c = (cuts c.args.left.now c.args.right.now c.in-Some.code (pair c)).0
 
-pub slice-bounds-write-count-2 : goal.slice-bounds-write-count-2
-slice-bounds-write-count-2 c =
+pub slice_bounds-write-count-2 : goal.slice_bounds-write-count-2
+slice_bounds-write-count-2 c =
     (cuts c.args.left.now c.args.right.now c.in-Some.code
-    (subst (λ o. Meets c.args.left.now c.args.right.now (Ok o)) c.in-Some.is c.in-ok-code.ensures)).1
+    (subst (λ o. Meets c.args.left.now c.args.right.now (Ok o)) c.in-Some.is c.in_ok-code.ensures)).1
 
-pub slice-bounds-write-start-2 : goal.slice-bounds-write-start-2
-slice-bounds-write-start-2 c =
+pub slice_bounds-write-start-2 : goal.slice_bounds-write-start-2
+slice_bounds-write-start-2 c =
     (cuts c.args.left.now c.args.right.now c.in-Some.code
-    (subst (λ o. Meets c.args.left.now c.args.right.now (Ok o)) c.in-Some.is c.in-ok-code.ensures)).1
+    (subst (λ o. Meets c.args.left.now c.args.right.now (Ok o)) c.in-Some.is c.in_ok-code.ensures)).1
 
 pub returns : goal.returns
 returns c =
     let left = c.args.left.now in
     let right = c.args.right.now in
     joins_pair left right c.args.out.now c.write-2.new.out
-    (take (length left - 3 - 0) left) c.as-bytes.result.now (take (length right - 3) (drop 3 right))
+    (take (length left - 3 - 0) left) c.as_bytes.result.now (take (length right - 3) (drop 3 right))
     c.in-Some.code c.write-2.result
-    (subst (λ o. Meets left right (Ok o)) c.in-Some.is c.in-ok-code.ensures)
-    (ap (λ n. take n left) (omega arith)) (c.as-bytes.ensures ∙ c.in-Some-new.ensures) (take_rest right 3)
+    (subst (λ o. Meets left right (Ok o)) c.in-Some.is c.in_ok-code.ensures)
+    (ap (λ n. take n left) (omega arith)) (c.as_bytes.ensures ∙ c.in-Some-new.ensures) (take_rest right 3)
     c.write-2.ensures

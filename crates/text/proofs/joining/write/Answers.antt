@@ -13,6 +13,6 @@ pub returns : goal.returns
 returns c =
     three c.args.out.now c.args.front.now c.args.middle.now c.args.back.now
     c.append.new.items c.append-2.new.items c.append-3.new.items
-    c.in-ok-at.at c.in-ok-at-2.at c.append-3.result
+    c.in_ok-at.at c.in_ok-at-2.at c.append-3.result
     c.if-not-fits.ensures (omega arith)
-    c.in-ok-at.ensures c.in-ok-at-2.ensures c.append-3.ensures
+    c.in_ok-at.ensures c.in_ok-at-2.ensures c.append-3.ensures

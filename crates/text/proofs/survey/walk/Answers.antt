@@ -4,14 +4,14 @@ use Rattle.text.specs.Reader.{Next}
 use Rattle.text.proofs.Surveying.{walk_more, walk_less, walk_refused}
 use Rattle.text.proofs.survey.walk.Goals as goal
 
-pub returns-in-err-c : goal.returns-in-err-c
-returns-in-err-c c =
-    let p = err_from_is_err_and c.from-residual.result c.from-residual.ensures.1 in
-    rw (p.1, p.2) (walk_refused c.args.text.now c.args.n c.loop-c.characters c.loop-c.found c.in-err-c.field-0.0 c.loop-c.invariant c.in-err-c.ensures.0)
+pub returns-in_err-c : goal.returns-in_err-c
+returns-in_err-c c =
+    let p = err_from_is_err_and c.from_residual.result c.from_residual.ensures.1 in
+    rw (p.1, p.2) (walk_refused c.args.text.now c.args.n c.loop-c.characters c.loop-c.found c.in_err-c.field-0.0 c.loop-c.invariant c.in_err-c.ensures.0)
 
 -- The character that was read.
 next : (c : goal.After-step-found) → Next c.loop-c.characters c.next.new.self (Ok (Some c.in-Some.c))
-next c = subst (λ o. Next c.loop-c.characters c.next.new.self (Ok o)) c.in-Some.is c.in-ok-c.ensures
+next c = subst (λ o. Next c.loop-c.characters c.next.new.self (Ok o)) c.in-Some.is c.in_ok-c.ensures
 
 pub loop-c-smaller : goal.loop-c-smaller
 loop-c-smaller c = walk_less c.loop-c.characters c.next.new.self c.in-Some.c (next c)

@@ -5,8 +5,8 @@ use Rattle.file.specs.Steps.{Checked}
 use Rattle.file.proofs.Answering.{copy_cut, copy_records, copy_space, loads}
 use Rattle.file.proofs.loaded.loading.load.Goals as goal
 
-pub copy-to-requires : goal.copy-to-requires
-copy-to-requires c =
+pub copy_to-requires : goal.copy_to-requires
+copy_to-requires c =
     let file = c.args.file.now in
     let old = c.args.stores in
     let s = c.in-Ok.sections in
@@ -17,9 +17,9 @@ pub returns-in-Ok : goal.returns-in-Ok
 returns-in-Ok c =
     let file = c.args.file.now in
     let s = c.in-Ok.sections in
-    let new = c.copy-to.new.stores in
+    let new = c.copy_to.new.stores in
     let k = subst (λ rooms. Checked file rooms (Ok s)) c.rooms.ensures c.in-Ok.ensures in
-    loads file c.args.stores new s k c.copy-to.ensures (record { stores = new; root = s.root }) refl refl
+    loads file c.args.stores new s k c.copy_to.ensures (record { stores = new; root = s.root }) refl refl
 
 pub returns-in-Err : goal.returns-in-Err
 returns-in-Err c = (

@@ -9,19 +9,19 @@ use Rattle.file.proofs.Parents.{parents_more, parents_wrong}
 use Rattle.file.proofs.sections.Sections.check_records.Goals as goal
 use Rattle.file.proofs.sections.Sections.check_records.Goals.{then-not-follow, else-not-follow}
 
-pub returns-in-err-node : goal.returns-in-err-node
-returns-in-err-node c =
+pub returns-in_err-node : goal.returns-in_err-node
+returns-in_err-node c =
     let l = laid c.args.self.now in
-    let p = err_from_is_err_and c.from-residual.result c.from-residual.ensures.1 in
-    let bad = c.in-err-node.ensures in
+    let p = err_from_is_err_and c.from_residual.result c.from_residual.ensures.1 in
+    let bad = c.in_err-node.ensures in
     rw (p.1, p.2) (subst (Refuses (record_questions l)) (sym bad.0) (record_refused l c.loop-x.x c.loop-x-test.true c.loop-x.invariant.0 bad.1))
 
 pub loop-x-preserved : goal.loop-x-preserved
 loop-x-preserved c =
     let l = laid c.args.self.now in
     let x = c.loop-x.x in
-    let n = c.in-ok-node.node in
-    let ok = c.in-ok-node.ensures in
+    let n = c.in_ok-node.node in
+    let ok = c.in_ok-node.ensures in
     let old = c.loop-x.parents in
     let o = c.loop-x.wrong in
     let below = c.loop-x.invariant.0 in

@@ -17,7 +17,7 @@ returns-in-Entry c =
     ap (λ w. Some w) c.word.ensures
     ∙ sym (entry_is s.entries.bytes.now s.text.now s.entries.count c.args.node c.args.k c.requires.lawful.0 c.in-Entry.i at)
 
-pub returns-in-default : goal.returns-in-default
-returns-in-default c =
+pub returns-in_default : goal.returns-in_default
+returns-in_default c =
     let s = c.args.self.now in
-    sym (no_child s.entries.bytes.now s.text.now s.entries.count c.args.node c.args.k c.requires.lawful.0 c.in-default.ensures)
+    sym (no_child s.entries.bytes.now s.text.now s.entries.count c.args.node c.args.k c.requires.lawful.0 c.in_default.ensures)

@@ -11,12 +11,12 @@ returns-in-IsExpression c =
     let at = subst (λ x. record_of n ≡ record_at l.rows x) (sym c.if-self-last.false) c.in-Some.ensures in
     root_found l c.requires.records (omega (arith, c.requires.cut.some_node)) n at (sym c.sort.ensures ∙ c.in-IsExpression.is)
 
-pub returns-in-default : goal.returns-in-default
-returns-in-default c =
+pub returns-in_default : goal.returns-in_default
+returns-in_default c =
     let l = laid c.args.self.now in
     let n = c.in-Some.node in
     let at = subst (λ x. record_of n ≡ record_at l.rows x) (sym c.if-self-last.false) c.in-Some.ensures in
-    root_other l c.requires.records (omega (arith, c.requires.cut.some_node)) n at (λ e. c.in-default.not-IsExpression (c.sort.ensures ∙ e))
+    root_other l c.requires.records (omega (arith, c.requires.cut.some_node)) n at (λ e. c.in_default.not-IsExpression (c.sort.ensures ∙ e))
 
 pub returns-in-None : goal.returns-in-None
 returns-in-None c =

@@ -7,12 +7,12 @@ pub returns-in-Ok : goal.returns-in-Ok
 returns-in-Ok c =
     let k = c.in-Ok.ensures in
     let n = c.in-Ok.len in
-    let old = c.as-mut-slice.result.now in
+    let old = c.as_mut_slice.result.now in
     let written = form c.args.self k.0 in (
       k.0,
       k.1,
       c.truncate.ensures.items
-          ∙ ap (take n) (with_items_is c.in-ok-out.out c.write.new.out (omega (arith, c.as-mut-slice.ensures.len)) ∙ k.4)
+          ∙ ap (take n) (with_items_is c.in_ok-out.out c.write.new.out (omega (arith, c.as_mut_slice.ensures.len)) ∙ k.4)
           ∙ take_at written (drop n old) n (sym k.2),
-      omega (arith, k.2, k.3, c.as-mut-slice.ensures.len, c.in-ok-out.ensures.len, c.min.ensures),
+      omega (arith, k.2, k.3, c.as_mut_slice.ensures.len, c.in_ok-out.ensures.len, c.min.ensures),
     )

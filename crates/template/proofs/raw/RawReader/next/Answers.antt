@@ -4,9 +4,9 @@ use Rattle.std.proofs.lemmas.Bool.{eqb-true}
 use Rattle.template.specs.Raw.{part_bytes, Reads}
 use Rattle.template.proofs.raw.RawReader.next.Goals as goal
 
-pub returns-then-is-empty : goal.returns-then-is-empty
-returns-then-is-empty c =
-    let none = nil_from_length c.args.self.now.rest.now (eqb-true _ 0 (sym c.if-is-empty.ensures)) in
+pub returns-then-is_empty : goal.returns-then-is_empty
+returns-then-is_empty c =
+    let none = nil_from_length c.args.self.now.rest.now (eqb-true _ 0 (sym c.if-is_empty.ensures)) in
     (none, none)
 
 -- The part's bytes are a front of what is left.
@@ -17,11 +17,11 @@ fits c =
     let reads = c.in-Some.ensures in
     omega (arith, ap length c.bytes.ensures, ap length reads.3, length-append (part_bytes part) (drop (length (part_bytes part)) left))
 
-pub slice-bounds-self-count : goal.slice-bounds-self-count
-slice-bounds-self-count c = fits c
+pub slice_bounds-self-count : goal.slice_bounds-self-count
+slice_bounds-self-count c = fits c
 
-pub slice-bounds-self-start : goal.slice-bounds-self-start
-slice-bounds-self-start c = fits c
+pub slice_bounds-self-start : goal.slice_bounds-self-start
+slice_bounds-self-start c = fits c
 
 pub returns : goal.returns
 returns c =

@@ -7,11 +7,11 @@ use Rattle.template.specs.Fronts.{capped}
 use Rattle.template.proofs.Hex.{hex_more, hex_each, capped_more}
 use Rattle.template.proofs.raw.escapes.hex_number.Goals as goal
 
-pub returns-in-default : goal.returns-in-default
-returns-in-default c h =
+pub returns-in_default : goal.returns-in_default
+returns-in_default c h =
     let ds = c.args.digits.now in
     let i = c.loop-d.d-index in
-    c.in-default.ensures.value (ltb-true (digit_value (get_or ds i 0)) 16 (hex_each ds i h c.loop-d-test.true))
+    c.in_default.ensures.value (ltb-true (digit_value (get_or ds i 0)) 16 (hex_each ds i h c.loop-d-test.true))
 
 pub loop-d-preserved : goal.loop-d-preserved
 loop-d-preserved c =

@@ -4,7 +4,7 @@ use Rattle.template.proofs.Fronting.{starts_true, starts_false}
 use Rattle.template.proofs.Hex.{decimal_true, decimal_false}
 use Rattle.template.proofs.Backslashes.{null_lost, null_found}
 use Rattle.template.proofs.raw.escapes.null_escape.Goals as goal
-use Rattle.template.proofs.raw.escapes.null_escape.Goals.{in-default-via-then-after-lt1, in-default-via-else-after-lt1+then-after-lt48, in-default-via-else-after-lt1+else-after-lt48+else-after-lt58}
+use Rattle.template.proofs.raw.escapes.null_escape.Goals.{in_default-via-then-after-lt1, in_default-via-else-after-lt1+then-after-lt48, in_default-via-else-after-lt1+else-after-lt48+else-after-lt58}
 
 pub returns-in-48-to-57 : goal.returns-in-48-to-57
 returns-in-48-to-57 c =
@@ -14,15 +14,15 @@ returns-in-48-to-57 c =
     let high : get_or after 0 0 < 58 = search rules in
     null_lost after (starts_true is_decimal after some (decimal_true (get_or after 0 0) low high))
 
-pub returns-in-default : goal.returns-in-default
-returns-in-default c =
+pub returns-in_default : goal.returns-in_default
+returns-in_default c =
     let after = c.args.after.now in
     let other : starts is_decimal after ≡ false =
     starts_false is_decimal after (λ l. decimal_false (get_or after 0 0) (λ low high.
-    elim c.in-default.branch [
-      | in-default-via-then-after-lt1 w ↦ omega (arith, ltb-true, ltb-false)
-      | in-default-via-else-after-lt1+then-after-lt48 w ↦ search rules
-      | in-default-via-else-after-lt1+else-after-lt48+else-after-lt58 w ↦ omega (arith, ltb-true, ltb-false)
+    elim c.in_default.branch [
+      | in_default-via-then-after-lt1 w ↦ omega (arith, ltb-true, ltb-false)
+      | in_default-via-else-after-lt1+then-after-lt48 w ↦ search rules
+      | in_default-via-else-after-lt1+else-after-lt48+else-after-lt58 w ↦ omega (arith, ltb-true, ltb-false)
     ]))
     in
     null_found after other

@@ -2,8 +2,8 @@ use Rattle.std.proofs.Common.{◌≡◌, ◌-◌, ◌++◌, length, take, sym, a
 use Rattle.std.proofs.lemmas.List.{take_at}
 use Rattle.template.proofs.raw.front.before.Goals as goal
 
-pub overflow-sub-result : goal.overflow-sub-result
-overflow-sub-result c = let both = ap length c.requires.1 in omega (arith, length-append c.requires.0 c.args.rest.now)
+pub overflow_sub-result : goal.overflow_sub-result
+overflow_sub-result c = let both = ap length c.requires.1 in omega (arith, length-append c.requires.0 c.args.rest.now)
 
 pub returns : goal.returns
 returns c =

@@ -14,11 +14,11 @@ use Rattle.template.proofs.raw.plain.plain.Goals.{then-loop-rest-test+else-rest-
 pub loop-rest-init : goal.loop-rest-init
 loop-rest-init c = run_none c.args.raw.now
 
-pub returns-in-default : goal.returns-in-default
-returns-in-default c =
+pub returns-in_default : goal.returns-in_default
+returns-in_default c =
     let rest = c.loop-rest.rest.now in
     let some : 0 < length rest = omega (arith, eqb-false (length rest) 0 (sym c.loop-rest-test.ensures)) in
-    run_lost c.args.raw.now rest c.loop-rest.invariant c.requires.1 some c.if-rest-ne92.true c.in-default.ensures
+    run_lost c.args.raw.now rest c.loop-rest.invariant c.requires.1 some c.if-rest-ne92.true c.in_default.ensures
 
 pub loop-rest-smaller : goal.loop-rest-smaller
 loop-rest-smaller c =

@@ -6,40 +6,40 @@ use Rattle.text.specs.Utf16.{trailing}
 use Rattle.text.proofs.Decoding.{begins_fits}
 use Rattle.text.proofs.Stepping.{stops, clashes}
 use Rattle.text.proofs.reader.Characters.next.Goals as goal
-use Rattle.text.proofs.reader.Characters.next.Goals.{else-self-via-then-self+else-is-trailing, else-self-via-else-self}
+use Rattle.text.proofs.reader.Characters.next.Goals.{else-self-via-then-self+else-is_trailing, else-self-via-else-self}
 
-pub returns-then-is-empty : goal.returns-then-is-empty
-returns-then-is-empty c =
-    let none = nil_from_length c.args.self.now.rest.now (eqb-true _ 0 (sym c.if-is-empty.ensures)) in
+pub returns-then-is_empty : goal.returns-then-is_empty
+returns-then-is_empty c =
+    let none = nil_from_length c.args.self.now.rest.now (eqb-true _ 0 (sym c.if-is_empty.ensures)) in
     (none, none, refl)
 
-pub returns-in-default : goal.returns-in-default
-returns-in-default c =
+pub returns-in_default : goal.returns-in_default
+returns-in_default c =
     let bytes = c.args.self.now.rest.now in
-    let some : 0 < length bytes = omega (arith, eqb-false (length bytes) 0 (sym c.if-is-empty.ensures)) in
-    (inl (refl, stops c.args.self.now.led bytes c.in-default.ensures some), refl, refl)
+    let some : 0 < length bytes = omega (arith, eqb-false (length bytes) 0 (sym c.if-is_empty.ensures)) in
+    (inl (refl, stops c.args.self.now.led bytes c.in_default.ensures some), refl, refl)
 
-pub returns-then-is-trailing : goal.returns-then-is-trailing
-returns-then-is-trailing c =
+pub returns-then-is_trailing : goal.returns-then-is_trailing
+returns-then-is_trailing c =
     let bytes = c.args.self.now.rest.now in
     let x = c.in-Some.c.code in
-    let some : 0 < length bytes = omega (arith, eqb-false (length bytes) 0 (sym c.if-is-empty.ensures)) in (
-      inl (refl, clashes c.args.self.now.led bytes (drop (length (encode x)) bytes) x c.in-Some.ensures.2 some c.if-self.true (sym c.if-is-trailing.ensures)),
+    let some : 0 < length bytes = omega (arith, eqb-false (length bytes) 0 (sym c.if-is_empty.ensures)) in (
+      inl (refl, clashes c.args.self.now.led bytes (drop (length (encode x)) bytes) x c.in-Some.ensures.2 some c.if-self.true (sym c.if-is_trailing.ensures)),
       refl,
       refl,
     )
 
 -- The character's bytes are a front of what is left.
-fits : (c : goal.After-self·1) → length c.in-Some.c.bytes.now ≤ length c.args.self.now.rest.now
+fits : (c : goal.After-self-1) → length c.in-Some.c.bytes.now ≤ length c.args.self.now.rest.now
 fits c =
     let h = c.in-Some.ensures in
     omega (arith, ap length h.1, begins_fits c.args.self.now.rest.now c.in-Some.c.code h.2)
 
-pub slice-bounds-self-count : goal.slice-bounds-self-count
-slice-bounds-self-count c = fits c
+pub slice_bounds-self-count : goal.slice_bounds-self-count
+slice_bounds-self-count c = fits c
 
-pub slice-bounds-self-start : goal.slice-bounds-self-start
-slice-bounds-self-start c = fits c
+pub slice_bounds-self-start : goal.slice_bounds-self-start
+slice_bounds-self-start c = fits c
 
 pub returns : goal.returns
 returns c =
@@ -49,7 +49,7 @@ returns c =
     let h = c.in-Some.ensures in
     let apart : (c.args.self.now.led && trailing x) ≡ false =
     elim c.else-self.branch [
-      | else-self-via-then-self+else-is-trailing w ↦ and_right c.args.self.now.led (trailing x) (sym w.if-is-trailing.ensures)
+      | else-self-via-then-self+else-is_trailing w ↦ and_right c.args.self.now.led (trailing x) (sym w.if-is_trailing.ensures)
       | else-self-via-else-self w ↦ and_left c.args.self.now.led (trailing x) w.if-self.false
     ]
     in (
@@ -57,5 +57,5 @@ returns c =
       apart,
       h.1,
       h.2 ∙ ap (λ l. encode x ++ drop (length l) bytes) (sym h.1) ∙ ap (λ l. encode x ++ l) (sym (take_rest bytes (length own))),
-      c.is-leading-self.ensures,
+      c.is_leading-self.ensures,
     )
