@@ -127,7 +127,7 @@ module _ (w : World) (c : Mode) where
       elements_refine (SwapElements.past_spread d) = then_second (λ v. then_first (elements_refine d))
       elements_refine (SwapElements.past_item d) = then_second (λ v. then_first (elements_refine d))
       elements_refine (SwapElements.in_spread d) = then_first (watched_both c (then_first (run_refines d)))
-      elements_refine (SwapElements.in_Item d) = then_first (run_refines d)
+      elements_refine (SwapElements.in_item d) = then_first (run_refines d)
 
       arguments_refine : {x y : Arguments} → SwapArguments old new x y → Refines (arguments w c x) (arguments w c y)
       arguments_refine (SwapArguments.past_spread_argument d) = then_second (λ v. then_first (arguments_refine d))

@@ -26,7 +26,7 @@ mutual
   elements_back (SwapElements.past_spread d) = SwapElements.past_spread (elements_back d)
   elements_back (SwapElements.past_item d) = SwapElements.past_item (elements_back d)
   elements_back (SwapElements.in_spread d) = SwapElements.in_spread (swap_back d)
-  elements_back (SwapElements.in_Item d) = SwapElements.in_Item (swap_back d)
+  elements_back (SwapElements.in_item d) = SwapElements.in_item (swap_back d)
 
   arguments_back : {old new : Expression} {x y : Arguments} → SwapArguments old new x y → SwapArguments new old y x
   arguments_back (SwapArguments.past_spread_argument d) = SwapArguments.past_spread_argument (arguments_back d)

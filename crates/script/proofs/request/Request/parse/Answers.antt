@@ -23,10 +23,10 @@ returns-in_err-text c =
     rw (p.1, p.2)
     (text_refused c.args.line.now c.cut_word-first.result.word.now c.in-Some.rest.now c.cut_word-second.result.word.now c.cut_word-second.result.rest c.in_err-text.field-0.0 first.0 first.1 c.cut_word-second.ensures c.in_err-text.ensures)
 
-pub returns-in_err-room-in-Some : goal.returns-in_err-room
-returns-in_err-room-in-Some c =
-    let p = err_from_is_err_and c.from_residual-in_err-room.result c.from_residual-in_err-room.ensures.1 in
+pub returns-in_err-room-in-Some-rest : goal.returns-in_err-room-in-Some-rest
+returns-in_err-room-in-Some-rest c =
+    let p = err_from_is_err_and c.from_residual-in_err-room-in-Some-rest.result c.from_residual-in_err-room-in-Some-rest.ensures.1 in
     let first = subst (CutAt c.args.line.now c.cut_word-first.result.word.now) c.in-Some.is c.cut_word-first.ensures in
-    let next = subst (CutAt c.in-Some.rest.now c.cut_word-second.result.word.now) c.in-Some-default.is c.cut_word-second.ensures in
+    let next = subst (CutAt c.in-Some.rest.now c.cut_word-second.result.word.now) c.in-Some-rest.is c.cut_word-second.ensures in
     rw (p.1, p.2)
-    (idle c.args.line.now c.in_err-room.field-0.0 (no_room c.args.line.now c.cut_word-first.result.word.now c.in-Some.rest.now c.cut_word-second.result.word.now c.in-Some-default.word.now first.0 first.1 next.0 next.1 c.in_err-room.ensures))
+    (idle c.args.line.now c.in_err-room-in-Some-rest.field-0.0 (no_room c.args.line.now c.cut_word-first.result.word.now c.in-Some.rest.now c.cut_word-second.result.word.now c.in-Some-rest.word.now first.0 first.1 next.0 next.1 c.in_err-room-in-Some-rest.ensures))
