@@ -1,6 +1,7 @@
 // Makes the vectors of template text, units, joining and comparing: node vectors/make.js
 //
-// Writes crates/vectors/stdin, a command on each line, and crates/vectors/stdout, the answer to each.
+// Writes crates/vectors/stdin, a command on each line, and crates/vectors/stdout, the answer to each; and the same of
+// comparing in crates/comparevectors.
 // What a raw text cooks to, the units of a text and what two texts join to are what this JavaScript engine
 // makes of them. The random texts come from a fixed start, so that every run writes the same files.
 'use strict';
@@ -27,8 +28,10 @@ const oneOf = (list) => list[below(list.length)];
 
 // ---- The vectors ----
 
-const lines = [];
+const vectors = [];
+const comparisons = [];
 const counts = {};
+let lines = vectors; // what the next vectors are added to
 function vector(kind, command, answer) {
   lines.push([command, answer]);
   const key = `${kind}, ${answer.replace(/^ok .*/, 'ok')}`;
@@ -227,7 +230,18 @@ vector('limits', 'join 61 62 0002', 'ok 6162');
 vector('limits', 'unit 61 18446744073709551615', 'none');
 vector('limits', 'unit 61 0000', 'ok 0061');
 
+// Lines that are no command.
+const LINES = ['', ' ', 'cook', 'escape', 'cook -', ' cook 61', 'cook 61 ', 'cook 61  1', 'cook   1', 'cook 6', 'cook 616', 'cook 6G',
+  'cook 6A', 'cook --', 'cook -1', 'Cook 61', 'cooks 61', 'raw 61', 'escape 61 -1', 'escape 61 +1', 'escape 61 1 1', 'escape 61 0x1',
+  'escape 61 18446744073709551616', 'escape\t61', 'cook é', 'cook 61\r', 'lawful', 'lawful 6', 'lawful 6A', 'lawful 61 ', 'lawful 61 1',
+  'Lawful 61', 'units', 'units 6', 'units 61 1', 'unit', 'unit 61', 'unit 61 ', 'unit 6 1', 'unit 61 +1', 'unit 61 -1', 'unit 61 1 1',
+  'unit 61 18446744073709551616', 'join', 'join 61', 'join 61 6', 'join 6 61', 'join 61 61 ', 'join 61 61 +1', 'join 61 61 1 1',
+  'join 61 61 18446744073709551616', 'joins 61 61', ' join 61 61', 'join 61 61\r'];
+LINES.forEach((line) => vector('no command', line, 'malformed'));
+
 // ---- Comparing ----
+
+lines = comparisons;
 
 // Whether a raw text cooks to a text.
 function cooksVector(kind, raw, text) {
@@ -280,20 +294,18 @@ for (const bytes of BAD) {
   }
 }
 
-// Lines that are no command.
-const LINES = ['', ' ', 'cook', 'escape', 'cook -', ' cook 61', 'cook 61 ', 'cook 61  1', 'cook   1', 'cook 6', 'cook 616', 'cook 6G',
-  'cook 6A', 'cook --', 'cook -1', 'Cook 61', 'cooks 61', 'raw 61', 'escape 61 -1', 'escape 61 +1', 'escape 61 1 1', 'escape 61 0x1',
-  'escape 61 18446744073709551616', 'escape\t61', 'cook é', 'cook 61\r', 'lawful', 'lawful 6', 'lawful 6A', 'lawful 61 ', 'lawful 61 1',
-  'Lawful 61', 'units', 'units 6', 'units 61 1', 'unit', 'unit 61', 'unit 61 ', 'unit 6 1', 'unit 61 +1', 'unit 61 -1', 'unit 61 1 1',
-  'unit 61 18446744073709551616', 'join', 'join 61', 'join 61 6', 'join 6 61', 'join 61 61 ', 'join 61 61 +1', 'join 61 61 1 1',
-  'join 61 61 18446744073709551616', 'joins 61 61', ' join 61 61', 'join 61 61\r', 'cooks', 'cooks 61 6', 'cooks 6 61', 'cooks 61 61 ',
-  'cooks 61 61 1', 'cooks 61 6A'];
-LINES.forEach((line) => vector('no command', line, 'malformed'));
+// Lines that compare nothing.
+['cooks', 'cooks 61 6', 'cooks 6 61', 'cooks 61 61 ', 'cooks 61 61 1', 'cooks 61 6A']
+  .forEach((line) => vector('no comparison', line, 'malformed'));
 
 // ---- The files ----
 
-const folder = path.join(__dirname, '..', 'crates', 'vectors');
-fs.writeFileSync(path.join(folder, 'stdin'), lines.map(([command]) => command + '\n').join(''));
-fs.writeFileSync(path.join(folder, 'stdout'), lines.map(([, answer]) => answer + '\n').join(''));
+function write(crate, made) {
+  const folder = path.join(__dirname, '..', 'crates', crate);
+  fs.writeFileSync(path.join(folder, 'stdin'), made.map(([command]) => command + '\n').join(''));
+  fs.writeFileSync(path.join(folder, 'stdout'), made.map(([, answer]) => answer + '\n').join(''));
+}
+write('vectors', vectors);
+write('comparevectors', comparisons);
 for (const key of Object.keys(counts).sort()) console.log(`${counts[key]} ${key}`);
-console.log(`${lines.length} in all`);
+console.log(`${vectors.length} and ${comparisons.length} in all`);

@@ -1,5 +1,5 @@
 -- A run at the front of a slice, and more behind it.
-use Rattle.std.proofs.Common.{◌≡◌, ℕ, ◌+◌, ◌-◌, ◌≤◌, List, ◌++◌, length, take, drop, Ok, sym, refl, ap, ◌∙◌, append_assoc, arith, length-append, drop-drop, take_at}
+use Rattle.std.proofs.Common.{◌≡◌, ℕ, ◌+◌, ◌-◌, ◌≤◌, List, ◌++◌, length, take, drop, Ok, sym, ap, ◌∙◌, arith, length-append, drop-drop, take_at}
 use lib.Seq.{drop-append-add}
 use Rattle.base.specs.Runs.{Appended}
 

@@ -1,5 +1,5 @@
 -- From the questions of each step to those of load.
-use Rattle.std.proofs.Common.{◌≡◌, ℕ, ◌+◌, ◌*◌, ◌<◌, ◌≤◌, ◌⊎◌, List, [], ◌∷◌, ◌++◌, map, length, drop, Ok, sym, refl, ap, ◌∙◌, subst, inl, inr, arith}
+use Rattle.std.proofs.Common.{◌≡◌, ℕ, List, ◌∷◌, ◌++◌, map, length, drop, Ok, sym, refl, ap, ◌∙◌, subst, inl, inr, arith}
 use Rattle.base.specs.declared.fault.Fault.{Fault}
 use Rattle.base.specs.declared.fault.Fault.TheVariants.{StoresTooSmall}
 use Rattle.base.specs.Questions.{Refuses, Granted}
@@ -9,13 +9,12 @@ use Rattle.store.specs.declared.stores.Counts.{Counts}
 use Rattle.store.specs.declared.stores.Stores.{Stores}
 use Rattle.store.specs.Held.{held, lent, Refilled}
 use Rattle.store.specs.Stores.{held_of, rooms_of}
-use Rattle.tree.specs.Heap.{cut}
 use Rattle.tree.proofs.Cuts.{length_cut}
 use Rattle.file.specs.declared.sections.Sections.{Sections}
 use Rattle.file.specs.declared.loaded.Loaded.{Loaded}
 use Rattle.file.specs.Calls.{loaded_stores, loaded_root, Holds, DenotesPayoff, Loads}
 use Rattle.file.specs.Format.{record_of}
-use Rattle.file.specs.Layout.{Versioned, Sized, Layout, layout, root, node_count, entry_count, text_count, text_offset}
+use Rattle.file.specs.Layout.{layout, root, node_count, entry_count, text_count, text_offset}
 use Rattle.file.specs.Lawful.{Contents, LawfulFile, Fits, LawfulRecord, size_questions, record_questions, link_questions, load_questions}
 use Rattle.file.specs.Steps.{laid, WellCut, CutsInto, FitsIn, AllRecords, AllLinks, Checked, CopiesTo}
 use Rattle.file.proofs.Counted.{length_words}

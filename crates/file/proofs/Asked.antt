@@ -1,5 +1,5 @@
 -- Asking one question of each node.
-use Rattle.std.proofs.Common.{◌≡◌, ℕ, zero, ◌<◌, ◌≤◌, sym, refl, ◌∙◌, subst, arith}
+use Rattle.std.proofs.Common.{◌≡◌, ℕ, ◌<◌, sym, refl, ◌∙◌, subst, arith}
 use Rattle.base.specs.declared.fault.Fault.TheVariants.{BadRecord}
 use Rattle.base.specs.Questions.{Refuses}
 use Rattle.base.proofs.Asking.{refuses_each}

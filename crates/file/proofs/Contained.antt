@@ -1,11 +1,10 @@
 -- What a file holds, given that each of its records is lawful.
-use Rattle.std.proofs.Common.{◌≡◌, ℕ, zero, suc, ◌+◌, ◌<◌, ◌≤◌, true, List, [], ◌∷◌, map, length, Some, None, Option, sym, refl, ap, ◌∙◌, subst, arith}
+use Rattle.std.proofs.Common.{◌≡◌, ℕ, zero, suc, ◌+◌, ◌<◌, ◌≤◌, List, [], ◌∷◌, map, length, Some, None, Option, sym, refl, ap, ◌∙◌, arith}
 use Rattle.std.specs.List.{slice_get}
 use Rattle.std.proofs.lemmas.List.{length-map}
 use Rattle.std.specs.Option.{option_map}
 use Rattle.tree.specs.declared.node.Node.{Node}
-use Rattle.tree.specs.Tree.{Own}
-use Rattle.tree.specs.Heap.{Held, look, read, own, children, inside}
+use Rattle.tree.specs.Heap.{Held, look, read, own, children}
 use Rattle.tree.proofs.Records.{read_inside}
 use Rattle.file.specs.declared.record.Record.{Record}
 use Rattle.file.specs.Format.{record_at, records, record_of}

@@ -1,14 +1,13 @@
 -- A file is granted all that load asks where it is lawful and fits, and only there.
-use Rattle.std.proofs.Common.{◌≡◌, ℕ, ◌<◌, List, length, Some, None, Option, sym, refl, ◌∙◌, subst, arith}
+use Rattle.std.proofs.Common.{◌≡◌, ℕ, ◌<◌, List, Some, None, Option, sym, refl, subst, arith}
 use Rattle.std.specs.List.{slice_get}
-use Rattle.base.specs.declared.fault.Fault.{Fault}
-use Rattle.base.specs.Questions.{Granted, Refuses}
+use Rattle.base.specs.Questions.{Granted}
 use Rattle.base.proofs.Asking.{granted_both, granted_apart, granted_each, each_granted, granted_not_refused}
 use Rattle.store.specs.declared.stores.Counts.{Counts}
 use Rattle.tree.specs.declared.node.Node.{Node}
 use Rattle.tree.specs.Heap.{Held}
 use Rattle.tree.proofs.Cuts.{nth_low}
-use Rattle.file.specs.Layout.{Layout, layout, root}
+use Rattle.file.specs.Layout.{Layout, layout}
 use Rattle.file.specs.Lawful.{Contents, LawfulNode, LawfulRecord, LawfulRoot, LawfulLinks, LinkedAt, RootAt, LawfulHeld, LawfulFile, Fits, record_questions, link_questions, load_questions}
 use Rattle.file.specs.Laws.{LawfulExactlyWhereGranted}
 use Rattle.file.specs.Steps.{AllRecords, AllLinks}

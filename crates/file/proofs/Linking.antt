@@ -1,23 +1,15 @@
 -- From what the code finds of links to what is asked of them.
-use Rattle.std.proofs.Common.{◌≡◌, ℕ, zero, suc, ◌+◌, ◌-◌, ◌<◌, ◌≤◌, min, Bool, true, false, ◌⊎◌, List, [], ◌∷◌, length, get_or, Some, None, Option, sym, refl, ap, ◌∙◌, subst, inl, inr, arith}
-use Rattle.std.specs.List.{slice_get}
-use Rattle.std.proofs.lemmas.Bool.{cases_eq, cases_lt, cases_Bool, eqb-true, eqb-false}
-use Rattle.base.specs.declared.fault.Fault.TheVariants.{BadLink}
-use Rattle.base.specs.Questions.{Refuses}
-use Rattle.base.proofs.Asking.{refuses_each}
+use Rattle.std.proofs.Common.{◌≡◌, ℕ, suc, ◌<◌, true, List, Some, sym, refl, ap, ◌∙◌, subst, arith}
 use Rattle.tree.specs.declared.node.Node.{Node}
 use Rattle.tree.specs.declared.node.Node.TheVariants.{String, Number, Boolean, Null, Name, Hole, Spread, Array, StaticMember, ComputedMember, Call, Template, Quasi, Unary, Binary, Opaque}
-use Rattle.tree.specs.declared.role.Sort.{Sort}
 use Rattle.tree.specs.declared.role.Sort.TheVariants.{IsExpression}
-use Rattle.tree.specs.Tree.{Own, Look}
 use Rattle.tree.specs.Heap.{Held, look, own, children}
 use Rattle.tree.specs.Lawful.{sort_of, role, admits, AdmitsRow}
-use Rattle.tree.specs.Laws.{parents}
 use Rattle.tree.specs.Roles.{sort_of_node, role_of_node}
 use Rattle.file.specs.Format.{record_at, record_of}
 use Rattle.file.specs.Layout.{Layout}
-use Rattle.file.specs.Lawful.{Contents, LawfulNode, LawfulRecord, ExpressionRow, LawfulRoot, LinksRow, LawfulLinks, due, link_questions}
-use Rattle.file.specs.Steps.{RecordsTo, AllRecords, Reached, AllReached, Tallies, Lowest, LinksAt, CountsParents}
+use Rattle.file.specs.Lawful.{Contents, LawfulNode, LawfulRecord, ExpressionRow, LawfulRoot, LinksRow}
+use Rattle.file.specs.Steps.{RecordsTo, AllRecords, AllReached, LinksAt}
 use Rattle.file.proofs.OneNode.{one_node}
 use Rattle.file.proofs.Contained.{holding, how_many, row_there}
 

@@ -1,12 +1,9 @@
 -- A record is that of one node at most: the node can be computed back from it.
-use Rattle.std.proofs.Common.{◌≡◌, ℕ, ◌+◌, ◌*◌, ◌/◌, ◌%◌, ◌^◌, Bool, true, false, cond, eqb, sym, refl, ap, ◌∙◌, arith}
+use Rattle.std.proofs.Common.{◌≡◌, ℕ, ◌+◌, ◌*◌, ◌/◌, ◌%◌, ◌^◌, true, false, cond, eqb, sym, refl, ap, ◌∙◌, arith}
 use Rattle.tree.specs.declared.node.Node.{Node}
 use Rattle.tree.specs.declared.node.Node.TheVariants.{String, Number, Boolean, Null, Name, Hole, Spread, Array, StaticMember, ComputedMember, Call, Template, Quasi, Unary, Binary, Opaque}
-use Rattle.tree.specs.declared.node.UnaryOperator.{UnaryOperator}
 use Rattle.tree.specs.declared.node.UnaryOperator.TheVariants.{Plus, Minus, Void}
-use Rattle.tree.specs.declared.node.BinaryOperator.{BinaryOperator}
 use Rattle.tree.specs.declared.node.BinaryOperator.TheVariants.{Exponentiation, Subtraction, Division}
-use Rattle.tree.specs.declared.node.FirstChild.{FirstChild}
 use Rattle.tree.specs.declared.node.FirstChild.TheVariants.{Value, Reference}
 use Rattle.tree.specs.declared.node.TextRun.{TextRun}
 use Rattle.tree.specs.declared.node.ListRun.{ListRun}

@@ -1,14 +1,14 @@
 -- Counting the parents of each node, node by node, and what is asked of links.
-use Rattle.std.proofs.Common.{◌≡◌, ℕ, zero, suc, ◌+◌, ◌-◌, ◌<◌, ◌≤◌, min, Bool, true, false, cond, eqb, ◌⊎◌, List, [], ◌∷◌, length, get_or, Some, None, Option, sym, refl, ap, ◌∙◌, subst, inl, inr, arith}
+use Rattle.std.proofs.Common.{◌≡◌, ℕ, suc, ◌+◌, ◌<◌, ◌≤◌, Bool, true, false, cond, eqb, List, length, get_or, Some, None, Option, sym, refl, ap, ◌∙◌, subst, inl, inr, arith}
 use Rattle.std.specs.Option.{option_or}
-use Rattle.std.proofs.lemmas.Bool.{cases_eq, cases_lt, cases_Bool}
+use Rattle.std.proofs.lemmas.Bool.{cases_lt}
 use Rattle.base.specs.declared.fault.Fault.TheVariants.{BadLink}
 use Rattle.base.specs.Questions.{Refuses}
 use Rattle.base.proofs.Asking.{refuses_each}
 use Rattle.tree.specs.declared.node.Node.{Node}
 use Rattle.tree.specs.Tree.{children_of}
-use Rattle.tree.specs.Heap.{Held, look, own, children}
-use Rattle.tree.specs.Laws.{count, total, parents}
+use Rattle.tree.specs.Heap.{Held, look, children}
+use Rattle.tree.specs.Laws.{count, parents}
 use Rattle.file.specs.Format.{record_at, record_of}
 use Rattle.file.specs.Layout.{Layout}
 use Rattle.file.specs.Lawful.{Contents, LawfulNode, LawfulRoot, LawfulLinks, due, link_questions}

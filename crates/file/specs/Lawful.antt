@@ -5,10 +5,10 @@ use Rattle.base.specs.Questions.{Questions, each_from}
 use Rattle.store.specs.declared.stores.Counts.{Counts}
 use Rattle.tree.specs.declared.node.Node.{Node}
 use Rattle.tree.specs.declared.role.Sort.TheVariants.{IsExpression}
-use Rattle.tree.specs.Tree.{Own, Look, children_of}
+use Rattle.tree.specs.Tree.{Own, Look}
 use Rattle.tree.specs.Heap.{Held, look, own, children, inside}
 use Rattle.tree.specs.Laws.{parents}
-use Rattle.tree.specs.Lawful.{LawfulOwn, sort_of, ChildrenRow, AdmitsRow, role}
+use Rattle.tree.specs.Lawful.{LawfulOwn, sort_of, AdmitsRow, role}
 use Rattle.file.specs.Format.{record_at, records, record_of}
 use Rattle.file.specs.Layout.{Versioned, Sized, Layout, layout, root, node_count, entry_count, text_count}
 

@@ -4,7 +4,7 @@ use Rattle.tree.specs.declared.node.FirstChild.{FirstChild}
 use Rattle.meaning.specs.Expression.{Expression, Elements, Arguments, Pieces, Children, Units}
 use Rattle.meaning.specs.World.{World, ValueIn, Result}
 use Rattle.meaning.specs.Acts.{Act, Mode, Watched}
-use Rattle.meaning.specs.Runs.{Reference, mean, elements, arguments, pieces, children}
+use Rattle.meaning.specs.Runs.{mean, elements, arguments, pieces, children}
 use Rattle.meaning.specs.Laws.{ACalmRunIsARun}
 use Rattle.meaning.proofs.Replacing.{Implies, ImpliesSight, then_both, then_first, seen_both_ways, steps_all, Refines, RefinesReference, callee_refines, sight_refines}
 

@@ -1,5 +1,5 @@
 -- What is a run of `old` is one of `new`: then so it is at every place.
-use Rattle.std.proofs.Common.{◌≡◌, ℕ, zero, suc, List, [], ◌∷◌, refl, subst}
+use Rattle.std.proofs.Common.{◌≡◌, ℕ, zero, suc, List, [], refl, subst}
 use Rattle.tree.specs.declared.node.FirstChild.{FirstChild}
 use Rattle.meaning.specs.Expression.{Expression, Elements, Arguments, Pieces, Children, Units, NoMember}
 use Rattle.meaning.specs.World.{World, ValueIn, Result, Outcome, Next}

@@ -1,5 +1,5 @@
 -- Coercions and operators.
-use Rattle.std.specs.Prelude.{Bool, true, false, codes}
+use Rattle.std.specs.Prelude.{true, false, codes}
 use Rattle.tree.specs.declared.node.UnaryOperator.{UnaryOperator}
 use Rattle.tree.specs.declared.node.UnaryOperator.TheVariants.{Plus, Minus, Void}
 use Rattle.tree.specs.declared.node.BinaryOperator.{BinaryOperator}

@@ -1,5 +1,5 @@
 -- Number values, as bits.
-use Rattle.std.specs.Prelude.{ℕ, ◌+◌, ◌-◌, ◌*◌, ◌/◌, ◌%◌, ◌^◌, Bool, cond, Some, None, Option, ◌==◌, nat_le, nat_lt}
+use Rattle.std.specs.Prelude.{ℕ, ◌+◌, ◌-◌, ◌*◌, ◌/◌, ◌%◌, ◌^◌, cond, Some, None, Option, ◌==◌, nat_le, nat_lt}
 
 -- A Number: NaN, of which there is one, or the 64 bits of any other number in the format binary64 of IEEE 754, so that
 -- there are two zeros and two infinities. ECMA-262, "The Number Type".

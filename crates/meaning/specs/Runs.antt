@@ -1,5 +1,5 @@
 -- The run of an expression in a world.
-use Rattle.std.specs.Prelude.{◌≡◌, ℕ, zero, suc, List, [], ◌∷◌, ◌++◌}
+use Rattle.std.specs.Prelude.{ℕ, zero, suc, List, [], ◌∷◌, ◌++◌}
 use Rattle.tree.specs.declared.node.FirstChild.{FirstChild}
 use Rattle.meaning.specs.Expression.{Expression, Elements, Arguments, Pieces, Children, Units, cooked_text}
 use Rattle.meaning.specs.Number.{Number}

@@ -1,4 +1,4 @@
-// Payoffs in files, texts and raw template text: what the library does, on a quote's payoff, on files, on one label, or
+// Texts, raw template text, and payoffs in files: what the library does, on one label, on a quote's payoff, on files, or
 // for each request of a script.
 
 #![tactic(auto)]
@@ -12,9 +12,10 @@ use std::alloc::Global;
 use std::env;
 
 const HELP: &str =
-    "payoff              load a quote's payoff from the file quote.payoff of this folder, and print its tree
+    "payoff              escape the label of a quote into template text, cook it back, and compare
+payoff label        the same
+payoff quote        load a quote's payoff from the file quote.payoff of this folder, and print its tree
 payoff show FILE..  print the tree of each file, as PATH: TREE; the status is 1 where a file has none
-payoff label        escape the label of a quote into template text, cook it back, and compare
 payoff script       answer the requests on standard input, one to a line:
                         escape HEX [ROOM]    the raw template text of a text
                         cook HEX [ROOM]      the text that raw template text cooks to
@@ -29,9 +30,9 @@ payoff help         print this";
 // What the program is asked to do.
 #[derive(Drop)]
 enum Command {
+    Label,
     Quote,
     Show(Vec<String>),
-    Label,
     Script,
     Help,
 }
@@ -41,16 +42,17 @@ impl Command {
     fn parse(heap: Global, mut args: env::Args) -> anyhow::Result<Command> {
         let _name = args.next();
         let Some(word) = args.next() else {
-            return Ok(Command::Quote);
+            return Ok(Command::Label);
         };
         let rest: Vec<String> = args.collect(heap)?;
         match (word.as_str(), rest.is_empty()) {
             ("show", false) => Ok(Command::Show(rest)),
             ("show", true) => Err(anyhow!("show which files? See payoff help")),
             ("label", true) => Ok(Command::Label),
+            ("quote", true) => Ok(Command::Quote),
             ("script", true) => Ok(Command::Script),
             ("help", true) => Ok(Command::Help),
-            ("label" | "script" | "help", false) => Err(anyhow!(
+            ("label" | "quote" | "script" | "help", false) => Err(anyhow!(
                 "more than one word: see payoff help"
             )),
             _ => Err(anyhow!(format!(in heap; "no command `{word}`: see payoff help")?)),
@@ -68,9 +70,9 @@ fn main(rt: HostRuntime) -> anyhow::Result<()> {
 
 fn run(rt: &HostRuntime) -> anyhow::Result<()> {
     match Command::parse(rt.alloc(), env::args(rt)?)? {
+        Command::Label => label::show(rt)?,
         Command::Quote => files::show_quote(rt)?,
         Command::Show(paths) => files::show_all(rt, paths.as_slice())?,
-        Command::Label => label::show(rt)?,
         Command::Script => cases::serve(rt)?,
         Command::Help => println!(rt; "{HELP}")?,
     }

@@ -1,12 +1,11 @@
 -- Lines that are cut at spaces. Assumes nothing.
-use Rattle.std.proofs.Common.{◌≡◌, ℕ, zero, suc, ◌+◌, ◌-◌, ◌/◌, ◌%◌, ◌<◌, ◌≤◌, List, [], ◌∷◌, ◌++◌, length, get_or, take, drop, sym, refl, ap, ◌∙◌, subst, arith, length-append, length-take, get_or-take}
+use Rattle.std.proofs.Common.{◌≡◌, ℕ, zero, suc, ◌+◌, ◌-◌, ◌/◌, ◌%◌, ◌<◌, List, [], ◌∷◌, ◌++◌, length, get_or, take, drop, sym, refl, ap, ◌∙◌, arith, length-append, length-take, get_or-take}
 use lib.Seq.{get_or-append_seam}
 use Rattle.std.proofs.lemmas.List.{drop_more, take-append-drop, take_rest}
 use Rattle.std.proofs.lemmas.Bool.Decides.{nat_tests}
 use Rattle.std.specs.Char.{digit_char}
 use Rattle.script.specs.Cuts.{Spaceless}
 use Rattle.script.specs.Hex.{hexed}
-use Rattle.script.specs.Words.{Bytes}
 
 -- A space at i, before which there is none, cuts a line.
 pub cut_at : (line : List ℕ) (i : ℕ) → i < length line → get_or line i 0 ≡ 0x20 → ((k : ℕ) → k < i → get_or line k 0 ≡ 0x20 → ⊥) → (line ≡ take (i - 0) line ++ 0x20 ∷ take (length line - (i + 1)) (drop (i + 1) line)) × Spaceless (take (i - 0) line)

@@ -1,5 +1,5 @@
 -- Lines that ask for nothing. Assumes nothing.
-use Rattle.std.proofs.Common.{◌≡◌, ℕ, zero, suc, ◌^◌, ◌<◌, List, [], ◌∷◌, ◌++◌, length, get_or, Some, None, Err, Option, sym, refl, ap, ◌∙◌, subst, inl, inr, append-nil, arith, Bor}
+use Rattle.std.proofs.Common.{◌≡◌, ℕ, zero, suc, ◌^◌, ◌<◌, List, ◌∷◌, ◌++◌, Some, None, Err, Option, sym, ap, ◌∙◌, subst, inl, inr, append-nil, arith, Bor}
 use Rattle.std.specs.Str.Parse.{IsNumeral, digits_value}
 use Rattle.script.specs.Cuts.{Spaceless, CutAt}
 use Rattle.script.specs.Hex.{hexed}

@@ -1,5 +1,5 @@
 -- Reading a word of the protocol. A word stands for bytes if it is what they are written as.
-use Rattle.std.specs.Prelude.{◌≡◌, ℕ, ◌<◌, List, [], ◌∷◌, Ok, Err, vec_items, Result, Vec, ◌≢◌}
+use Rattle.std.specs.Prelude.{◌≡◌, ℕ, List, [], ◌∷◌, Ok, Err, vec_items, Result, Vec, ◌≢◌}
 use Rattle.std.specs.declared.alloc.Global.{Global}
 use Rattle.script.specs.declared.request.Flaw.{Flaw}
 use Rattle.script.specs.declared.request.Flaw.TheVariants.{Malformed, Memory}

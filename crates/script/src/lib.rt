@@ -20,6 +20,8 @@ pub use hex::{Hex, bytes_of};
 use request::Request;
 pub use request::{Call, Flaw, number_of};
 use std::alloc::{AllocError, Global};
+use std::io;
+use std::io::{BufRead, BufReader};
 
 // The answer to a line, which stands without its line feed.
 pub fn reply(heap: Global, line: &[u8]) -> Result<Answer, AllocError>
@@ -30,4 +32,14 @@ pub fn reply(heap: Global, line: &[u8]) -> Result<Answer, AllocError>
         Err(Flaw::Malformed) => Ok(Answer::Malformed),
         Err(Flaw::Memory) => Err(AllocError),
     }
+}
+
+// Answers each line of standard input on standard output.
+pub fn serve(rt: &HostRuntime) -> io::Result<()> {
+    let heap = rt.alloc();
+    for line in BufReader::new(heap, rt.stdin())?.split(heap, b'\n') {
+        let answer = reply(heap, line?.as_slice())?;
+        println!(rt; "{answer}")?;
+    }
+    Ok(())
 }

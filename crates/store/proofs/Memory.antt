@@ -3,7 +3,7 @@ use Rattle.std.proofs.Common.{◌≡◌, ℕ, zero, suc, ◌+◌, ◌≤◌, Boo
 use Rattle.std.specs.List.{slice_get}
 use Rattle.base.specs.Runs.{Appended}
 use Rattle.tree.specs.declared.node.Node.{Node}
-use Rattle.tree.specs.Tree.{Own, Tree, Trees, tree, label, labels, Denotes}
+use Rattle.tree.specs.Tree.{Own, tree, labels}
 use Rattle.tree.specs.Heap.{Held, own, children, inside, read, look}
 use Rattle.store.specs.Stores.{Shows, ShowsTop}
 

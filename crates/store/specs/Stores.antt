@@ -1,7 +1,7 @@
 -- The three stores, and what is read from them.
 use Rattle.std.specs.Prelude.{◌≡◌, ℕ, true, length, Some, None, Option}
 use Rattle.tree.specs.declared.node.Node.{Node}
-use Rattle.tree.specs.Tree.{Tree, tree, label, own_of, below, labels, Denotes}
+use Rattle.tree.specs.Tree.{Tree, label, own_of, below, labels, Denotes}
 use Rattle.tree.specs.Heap.{Held, look, own, children, inside}
 use Rattle.store.specs.declared.stores.Stores.{Stores}
 use Rattle.store.specs.declared.stores.Counts.{Counts}

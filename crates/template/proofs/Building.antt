@@ -1,5 +1,5 @@
 -- Writing a text unit by unit.
-use Rattle.std.proofs.Common.{◌≡◌, ℕ, ◌+◌, ◌-◌, ◌<◌, ◌≤◌, Bool, true, false, ◌&&◌, ◌⊎◌, List, [], ◌∷◌, ◌++◌, length, Some, None, Option, sym, refl, ap, ◌∙◌, subst, inl, inr, ⊎_elim, append_assoc, arith, length-append, MatchOption}
+use Rattle.std.proofs.Common.{◌≡◌, ℕ, ◌-◌, ◌≤◌, true, false, ◌&&◌, List, [], ◌∷◌, ◌++◌, length, Some, None, Option, sym, ap, ◌∙◌, subst, append_assoc, arith, length-append, MatchOption}
 use lib.Utf8.{encode, encodes}
 use Rattle.std.proofs.lemmas.List.{append-nil}
 use Rattle.std.proofs.lemmas.Bool.{and_left, and_right}
@@ -7,11 +7,11 @@ use Rattle.std.proofs.lemmas.Str.{encodes-append}
 use Rattle.text.specs.Utf16.{leading, trailing, paired, utf16, units}
 use Rattle.text.specs.Points.{Canonical, ends}
 use Rattle.text.specs.Survey.{EndsWith}
-use Rattle.text.proofs.Pairing.{leading_range, trailing_range, canonical_append, canonical_front, not_leading_above, not_trailing_above, units_append, utf16_below, utf16_paired, ends_push}
+use Rattle.text.proofs.Pairing.{leading_range, trailing_range, canonical_append, canonical_front, not_leading_above, not_trailing_above, utf16_below, utf16_paired, ends_push}
 use Rattle.text.proofs.Seams.{lead_width}
 use Rattle.text.proofs.Surveying.{units_push, ends_with}
 use Rattle.text.proofs.Widths.{encode_4}
-use Rattle.template.specs.Building.{Built, Adds, Completes}
+use Rattle.template.specs.Building.{Adds, Completes}
 use Rattle.template.specs.Tally.{Put, Filled}
 use Rattle.template.specs.declared.cooked.Cooked.{Cooked}
 use Rattle.template.proofs.Tallying.{put_over, put_more}

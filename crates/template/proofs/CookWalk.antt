@@ -5,10 +5,8 @@ use Rattle.std.proofs.lemmas.List.{append-nil}
 use Rattle.std.proofs.lemmas.Str.{encodes-append, length-le-encodes}
 use Rattle.base.specs.declared.fault.Fault.{Fault}
 use Rattle.base.specs.Questions.{Refuses}
-use Rattle.text.specs.Points.{Canonical}
 use Rattle.text.specs.Stored.{stored}
 use Rattle.text.specs.Survey.{EndsWith}
-use Rattle.text.specs.Utf16.{points}
 use Rattle.text.proofs.Pairing.{points_units}
 use Rattle.text.proofs.Seams.{lead_width}
 use Rattle.template.specs.Building.{Built}

@@ -1,5 +1,5 @@
 -- What each kind of part adds to what was cooked.
-use Rattle.std.proofs.Common.{◌≡◌, ℕ, ◌≤◌, false, List, [], ◌∷◌, ◌++◌, length, None, sym, ap, ◌∙◌, subst, arith, Bor}
+use Rattle.std.proofs.Common.{◌≡◌, ℕ, ◌≤◌, false, List, [], ◌∷◌, length, None, sym, ap, ◌∙◌, subst, arith, Bor}
 use lib.Utf8.{encodes}
 use Rattle.std.proofs.lemmas.List.{append-nil}
 use Rattle.text.specs.Utf16.{utf16}

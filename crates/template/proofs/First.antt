@@ -1,9 +1,9 @@
 -- The template character at the front of a list of code points: there is at most one.
-use Rattle.std.proofs.Common.{◌≡◌, ℕ, ◌<◌, Bool, true, false, cond, not, ◌&&◌, ◌||◌, eqb, ltb, leb, List, [], ◌∷◌, ◌++◌, length, Some, None, Option, sym, refl, ap, ◌∙◌, arith}
+use Rattle.std.proofs.Common.{◌≡◌, ℕ, Bool, true, false, cond, not, ◌&&◌, ◌||◌, eqb, ltb, leb, List, [], ◌∷◌, ◌++◌, length, Some, None, Option, sym, refl, ap, ◌∙◌}
 use lib.Utf8.{scalar}
 use Rattle.std.proofs.lemmas.Bool.{and_from, not_from_false, or_parts, cond-true, cond-false, lt-ltb, le-leb}
-use Rattle.std.proofs.lemmas.List.{append-nil, append_assoc, append_cancel_left}
-use Rattle.template.specs.Grammar.{TemplateCharacter, dollar, escape, continuation, line_end, other, Escape, single, non_escape, null, hex, hex4, code_point, LineEnd, lf, cr, ls, ps, crlf, source, sources, Allowed, AllAllowed, HexDigits, starts, is_line_terminator, is_decimal, is_hex, is_single, is_escape, mv, line_source, line_allowed, escape_source, escape_allowed}
+use Rattle.std.proofs.lemmas.List.{append_assoc, append_cancel_left}
+use Rattle.template.specs.Grammar.{TemplateCharacter, dollar, escape, continuation, line_end, other, Escape, single, non_escape, null, hex, hex4, code_point, LineEnd, lf, cr, ls, ps, crlf, source, Allowed, HexDigits, starts, is_line_terminator, is_decimal, is_hex, is_single, is_escape, mv, line_source, line_allowed, escape_source, escape_allowed}
 
 -- A character that stands for itself.
 abbrev pub is_other : ℕ → Bool

@@ -1,8 +1,8 @@
 -- The template value of a plain run.
-use Rattle.std.proofs.Common.{◌≡◌, ℕ, ◌+◌, ◌*◌, ◌<◌, ◌≤◌, Bool, true, false, cond, ◌&&◌, ◌||◌, eqb, ◌⊎◌, List, [], ◌∷◌, ◌++◌, length, None, sym, refl, ap, ◌∙◌, subst, inl, inr, ⊎_elim, arith, length-append}
-use lib.Utf8.{scalar, scalars, encode, encodes, scalar_cases}
+use Rattle.std.proofs.Common.{◌≡◌, ℕ, ◌<◌, ◌≤◌, Bool, true, false, ◌&&◌, ◌||◌, eqb, List, [], ◌∷◌, ◌++◌, length, None, sym, refl, ap, ◌∙◌, subst, ⊎_elim, arith, length-append}
+use lib.Utf8.{scalar, scalars, encodes, scalar_cases}
 use Rattle.std.proofs.lemmas.List.{append-nil}
-use Rattle.std.proofs.lemmas.Bool.{and_from, and_parts, and_right, or_parts, cases_Bool, cond-true, cond-false, cond_both}
+use Rattle.std.proofs.lemmas.Bool.{and_from, and_parts, and_right, or_parts, cond-false, cond_both}
 use Rattle.std.proofs.lemmas.Str.{encodes-append}
 use Rattle.text.specs.Utf16.{leading, trailing, utf16, units}
 use Rattle.text.specs.Points.{Canonical, ends}
@@ -11,7 +11,7 @@ use Rattle.template.specs.Grammar.{TemplateCharacter, dollar, escape, continuati
 use Rattle.template.specs.Lines.{normal}
 use Rattle.template.specs.Cooked.{Spells}
 use Rattle.template.specs.Raw.{Unescaped}
-use Rattle.template.specs.Building.{Built, Adds}
+use Rattle.template.specs.Building.{Adds}
 use Rattle.template.specs.Tally.{Filled, Grows}
 use Rattle.template.specs.declared.cooked.Cooked.{Cooked}
 use Rattle.template.proofs.Runs.{normal_after, normal_encodes}

@@ -4,9 +4,9 @@ use lib.Utf8.{scalar, encode, encodes, next}
 use Rattle.std.specs.List.{AllByRecursion as All}
 use Rattle.std.proofs.lemmas.Bool.{eqb-true, ne_eqb, and_right, cases_Bool, cases_lt, cond-false, cond_both}
 use Rattle.std.proofs.lemmas.Str.{encode_ascii}
-use Rattle.text.specs.Utf16.{utf16, units}
+use Rattle.text.specs.Utf16.{utf16}
 use Rattle.template.specs.Lines.{normal}
-use Rattle.template.specs.Grammar.{TemplateCharacter, dollar, escape, continuation, line_end, other, lf, cr, ls, ps, crlf, source, sources, value, values, Allowed, AllAllowed, starts}
+use Rattle.template.specs.Grammar.{TemplateCharacter, dollar, escape, continuation, line_end, other, lf, cr, ls, ps, crlf, source, sources, value, Allowed, AllAllowed, starts}
 
 -- The line end LF.
 abbrev pub is_lf : TemplateCharacter → Bool

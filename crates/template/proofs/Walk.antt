@@ -1,5 +1,5 @@
 -- The walk that escapes a text, character by character.
-use Rattle.std.proofs.Common.{◌≡◌, ℕ, ◌+◌, ◌*◌, ◌^◌, ◌<◌, ◌≤◌, Bool, false, ◌&&◌, List, [], ◌∷◌, ◌++◌, length, drop, Some, None, Ok, Err, Option, Result, sym, refl, ap, ◌∙◌, subst, inl, inr, arith, length-append}
+use Rattle.std.proofs.Common.{◌≡◌, ℕ, ◌+◌, ◌*◌, ◌^◌, ◌<◌, ◌≤◌, Bool, false, ◌&&◌, List, [], ◌∷◌, ◌++◌, length, Some, None, Ok, Option, sym, refl, ap, ◌∙◌, subst, inl, inr, arith, length-append}
 use lib.Utf8.{encode, encodes}
 use Rattle.std.proofs.lemmas.List.{append-nil, append_assoc}
 use Rattle.std.proofs.lemmas.Str.{encodes-append}
@@ -12,7 +12,7 @@ use Rattle.text.specs.Reader.{Readable, Next, rest_of}
 use Rattle.text.specs.declared.character.Character.{Character}
 use Rattle.text.specs.declared.reader.Characters.{Characters}
 use Rattle.text.proofs.Stepping.{goes_on}
-use Rattle.text.proofs.Pairing.{stored_once, stores_units, points_units, canonical_append, ends_push, unlawful_more}
+use Rattle.text.proofs.Pairing.{stores_units, points_units, canonical_append, ends_push, unlawful_more}
 use Rattle.template.specs.Escaped.{escaped, escapes, raw_of}
 use Rattle.template.specs.Tally.{Put, Filled}
 use Rattle.template.proofs.Escapes.{escaped_length}

@@ -1,5 +1,5 @@
 -- Writing a text unit by unit: what was written so far, and the leading surrogate that it ends with.
-use Rattle.std.specs.Prelude.{◌≡◌, ℕ, ◌+◌, true, false, List, ◌++◌, length, Some, Option}
+use Rattle.std.specs.Prelude.{◌≡◌, ℕ, true, false, List, ◌++◌, length, Some, Option}
 use Rattle.std.proofs.Math.Utf8.{encodes}
 use Rattle.text.specs.Utf16.{leading, trailing, paired, units}
 use Rattle.text.specs.Points.{Canonical}

@@ -1,5 +1,5 @@
 -- The bytes at the front of a list, and the code point that they spell.
-use Rattle.std.proofs.Common.{◌≡◌, ℕ, zero, suc, ◌+◌, ◌<◌, ◌≤◌, List, [], ◌∷◌, ◌++◌, length, get_or, drop, Some, None, Option, sym, refl, ap, ◌∙◌, subst, arith, length-append, MatchOption}
+use Rattle.std.proofs.Common.{◌≡◌, ℕ, zero, suc, ◌<◌, ◌≤◌, List, [], ◌∷◌, ◌++◌, length, get_or, drop, Some, None, Option, sym, ap, ◌∙◌, subst, arith, length-append, MatchOption}
 use lib.Utf8.{encode}
 use Rattle.text.specs.Character.{lead_length, Begins, Lacks, One, Two, Three, Four}
 use Rattle.text.proofs.Widths.{Width, w1, w2, w3, w4, width_of, encode_1, encode_2, encode_3, encode_4, lead_counts}

@@ -1,7 +1,7 @@
 -- The stored form of units, one list behind the other.
-use Rattle.std.proofs.Common.{◌≡◌, ℕ, Bool, true, false, cond, ◌&&◌, ◌⊎◌, List, [], ◌∷◌, ◌++◌, sym, refl, ap, ◌∙◌, inl, inr, ⊎_elim, append_assoc, arith}
+use Rattle.std.proofs.Common.{◌≡◌, ℕ, true, false, ◌&&◌, List, [], ◌∷◌, ◌++◌, sym, refl, ap, ◌∙◌, ⊎_elim, append_assoc, arith}
 use lib.Utf8.{encode, encodes}
-use Rattle.std.proofs.lemmas.Bool.{and_right, and_left, and_cases, cases_Bool, cond-true, cond-false}
+use Rattle.std.proofs.lemmas.Bool.{and_right, and_cases, cases_Bool, cond-true, cond-false}
 use Rattle.std.proofs.lemmas.Str.{encodes-append}
 use Rattle.text.specs.Utf16.{leading, trailing, paired, before, points}
 use Rattle.text.specs.Points.{ends}

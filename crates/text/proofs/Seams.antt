@@ -1,22 +1,21 @@
 -- Two texts, one behind the other.
-use Rattle.std.proofs.Common.{◌≡◌, ℕ, ◌+◌, ◌-◌, ◌<◌, ◌≤◌, Bool, true, false, ◌&&◌, ◌⊎◌, List, [], ◌∷◌, ◌++◌, length, take, drop, Some, None, Ok, Err, Option, Result, sym, refl, ap, ◌∙◌, subst, inl, inr, ⊎_elim, append_assoc, arith, length-append, take_at, drop_at, MatchOption}
+use Rattle.std.proofs.Common.{◌≡◌, ℕ, ◌+◌, ◌-◌, ◌≤◌, true, false, ◌&&◌, List, [], ◌∷◌, ◌++◌, length, take, drop, Some, None, Ok, Err, Option, Result, sym, refl, ap, ◌∙◌, subst, inl, inr, ⊎_elim, append_assoc, arith, length-append, take_at, drop_at, MatchOption}
 use lib.Utf8.{encode, encodes}
 use Rattle.std.proofs.lemmas.List.{append-nil}
 use Rattle.std.proofs.lemmas.Bool.{and_right, and_cases, both_ways}
 use Rattle.std.proofs.lemmas.Str.{cons_from_encodes, encodes-append}
 use Rattle.base.specs.declared.fault.Fault.{Fault}
-use Rattle.base.specs.Questions.{Refuses}
 use Rattle.base.specs.Runs.{Appended}
 use Rattle.base.proofs.Fronts.{front_more}
 use Rattle.text.specs.declared.character.Character.{Character}
 use Rattle.text.specs.Utf16.{leading, trailing, paired, utf16, units, points}
 use Rattle.text.specs.Points.{Canonical, ends}
-use Rattle.text.specs.Stored.{stored, Stores, Lawful}
+use Rattle.text.specs.Stored.{stored, Stores}
 use Rattle.text.specs.Character.{Lacks, Reads}
 use Rattle.text.specs.Survey.{EndsWith}
 use Rattle.text.specs.Calls.{Joins}
 use Rattle.text.specs.Join.{Meets, Written}
-use Rattle.text.proofs.Pairing.{leading_range, trailing_range, not_leading_above, not_trailing_above, canonical_plain, canonical_append, canonical_front, canonical_back, units_append, points_units, utf16_below, utf16_paired, stores_points}
+use Rattle.text.proofs.Pairing.{leading_range, trailing_range, not_leading_above, not_trailing_above, canonical_append, canonical_front, units_append, points_units, utf16_below, utf16_paired, stores_points}
 use Rattle.text.proofs.Widths.{encode_3}
 
 -- ---- where they meet

@@ -1,11 +1,11 @@
 -- One step through a stored text.
-use Rattle.std.proofs.Common.{◌≡◌, ℕ, ◌<◌, ◌≤◌, Bool, true, false, ◌&&◌, ◌⊎◌, List, [], ◌∷◌, ◌++◌, length, drop, sym, refl, ap, ◌∙◌, subst, inl, inr, arith}
+use Rattle.std.proofs.Common.{◌≡◌, ℕ, ◌<◌, Bool, true, ◌&&◌, List, [], ◌∷◌, ◌++◌, length, sym, ap, ◌∙◌, inl, inr, arith}
 use lib.Utf8.{encode, encodes}
 use Rattle.std.proofs.lemmas.Bool.{and_from, both_ways}
 use Rattle.std.proofs.lemmas.Str.{encode_same}
-use Rattle.text.specs.Utf16.{leading, trailing}
+use Rattle.text.specs.Utf16.{trailing}
 use Rattle.text.specs.Points.{Canonical}
-use Rattle.text.specs.Character.{Begins, Lacks}
+use Rattle.text.specs.Character.{Lacks}
 use Rattle.text.specs.Reader.{Readable}
 
 -- Bytes that begin with no character cannot be read on.

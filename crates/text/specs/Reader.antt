@@ -1,5 +1,5 @@
 -- Reading a stored text character by character.
-use Rattle.std.specs.Prelude.{◌≡◌, ℕ, ◌<◌, ◌≤◌, Bool, false, ◌&&◌, ◌⊎◌, List, [], ◌∷◌, ◌++◌, Some, None, Ok, Err, Option, Result}
+use Rattle.std.specs.Prelude.{◌≡◌, ℕ, ◌≤◌, Bool, false, ◌&&◌, ◌⊎◌, List, [], ◌∷◌, ◌++◌, Some, None, Ok, Err, Option, Result}
 use Rattle.std.proofs.Math.Utf8.{encode}
 use Rattle.base.specs.declared.fault.Fault.{Fault}
 use Rattle.base.specs.Questions.{Refuses}

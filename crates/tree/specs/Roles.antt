@@ -1,5 +1,5 @@
 -- What a record says of its place and of its children, before any text is read.
-use Rattle.std.specs.Prelude.{◌≡◌, ℕ, ◌+◌, ◌-◌, ◌<◌, ◌≤◌, Bool, cond, List, [], ◌∷◌, length, Some, None, Option}
+use Rattle.std.specs.Prelude.{◌≡◌, ℕ, ◌+◌, ◌-◌, ◌<◌, ◌≤◌, List, [], ◌∷◌, length, Some, None, Option}
 use Rattle.std.specs.List.{slice_get}
 use Rattle.tree.specs.declared.node.Node.{Node}
 use Rattle.tree.specs.declared.role.Child.{Child}

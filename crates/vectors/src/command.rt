@@ -15,10 +15,6 @@ pub enum Command {
         right: Vec<u8>,
         out: Vec<u8>,
     },
-    Cooks {
-        raw: Vec<u8>,
-        cooked: Vec<u8>,
-    },
 }
 
 impl Command {
@@ -39,10 +35,6 @@ impl Command {
                 right,
                 number_of(room.as_bytes())?,
             ),
-            ["cooks", raw, cooked] => Ok(Command::Cooks {
-                raw: text_of(heap, raw)?,
-                cooked: text_of(heap, cooked)?,
-            }),
             _ => Err(Flaw::Malformed),
         }
     }
@@ -65,7 +57,7 @@ impl Command {
 
     fn call(self) -> Result<Answer, Fault> {
         match self {
-            Command::Lawful(text) => Ok(Answer::Whether(text::is_lawful(text.as_slice()))),
+            Command::Lawful(text) => Ok(Answer::Lawful(text::is_lawful(text.as_slice()))),
             Command::Units(text) => Ok(Answer::Count(text::count_units(text.as_slice())?)),
             Command::Unit(text, k) => Ok(Answer::Unit(text::unit_at(text.as_slice(), k)?)),
             Command::Join {
@@ -76,10 +68,6 @@ impl Command {
                 let len = text::join(left.as_slice(), right.as_slice(), out.as_mut_slice())?;
                 out.truncate(len);
                 Ok(Answer::Script(script::Answer::Text(out)))
-            }
-            Command::Cooks { raw, cooked } => {
-                let same = template::cooks_to(raw.as_slice(), cooked.as_slice());
-                Ok(Answer::Whether(same))
             }
         }
     }

@@ -4,7 +4,6 @@
 //     units HEX             how many units the text has
 //     unit HEX K            the unit at K
 //     join HEX HEX [ROOM]   the two texts joined
-//     cooks RAWHEX HEX      whether the raw text is well formed and cooks to the text
 //
 // The answers are `yes` and `no`; `ok N`; `ok UUUU`, or `none` past the end; `ok HEX`; and the protocol's own.
 

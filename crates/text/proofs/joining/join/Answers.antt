@@ -1,4 +1,4 @@
-use Rattle.std.proofs.Common.{◌-◌, length, take, drop, Some, None, Ok, ap, ◌∙◌, subst, arith}
+use Rattle.std.proofs.Common.{◌-◌, length, take, drop, Some, Ok, ap, ◌∙◌, subst, arith}
 use Rattle.std.proofs.lemmas.List.{take_rest}
 use Rattle.text.specs.Join.{Meets}
 use Rattle.text.proofs.Seams.{joins_apart, joins_pair, cuts}

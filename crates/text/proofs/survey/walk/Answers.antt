@@ -1,4 +1,4 @@
-use Rattle.std.proofs.Common.{◌≡◌, Some, Ok, subst}
+use Rattle.std.proofs.Common.{Some, Ok, subst}
 use Rattle.std.proofs.lemmas.Result.{err_from_is_err_and}
 use Rattle.text.specs.Reader.{Next}
 use Rattle.text.proofs.Surveying.{walk_more, walk_less, walk_refused}

@@ -1,4 +1,3 @@
-use Rattle.std.proofs.Common.{◌≡◌}
 use Rattle.text.specs.Utf16.{units}
 use Rattle.text.proofs.Pairing.{stores_points}
 use Rattle.text.proofs.units.count_units.Goals as goal

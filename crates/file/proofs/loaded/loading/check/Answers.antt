@@ -1,6 +1,6 @@
-use Rattle.std.proofs.Common.{◌≡◌, ◌-◌, arith}
+use Rattle.std.proofs.Common.{◌-◌}
 use Rattle.std.proofs.lemmas.Result.{err_from_is_err_and}
-use Rattle.file.proofs.Answering.{cut_refused, room_refused, records_refused, links_refused, all_checked}
+use Rattle.file.proofs.Answering.{room_refused, records_refused, links_refused, all_checked}
 use Rattle.file.proofs.Tallied.{table_zeros}
 use Rattle.file.proofs.loaded.loading.check.Goals as goal
 

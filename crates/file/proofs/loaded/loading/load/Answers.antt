@@ -1,4 +1,4 @@
-use Rattle.std.proofs.Common.{◌≡◌, Ok, refl, subst}
+use Rattle.std.proofs.Common.{Ok, refl, subst}
 use Rattle.base.specs.Questions.{Refuses}
 use Rattle.file.specs.Lawful.{load_questions}
 use Rattle.file.specs.Steps.{Checked}

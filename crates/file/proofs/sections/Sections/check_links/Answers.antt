@@ -1,4 +1,3 @@
-use Rattle.std.proofs.Common.{◌≡◌}
 use Rattle.file.specs.Steps.{laid}
 use Rattle.file.proofs.Parents.{link_refused, links_all}
 use Rattle.file.proofs.sections.Sections.check_links.Goals as goal

@@ -1,4 +1,4 @@
-use Rattle.std.proofs.Common.{◌≡◌, ◌+◌, ◌≤◌, Bool, false, length, sym, ap, ◌∙◌, subst, arith}
+use Rattle.std.proofs.Common.{◌+◌, ◌≤◌, false, length, sym, ◌∙◌, subst, arith}
 use Rattle.tree.specs.Heap.{children}
 use Rattle.tree.proofs.Records.{length_children}
 use Rattle.file.specs.Steps.{laid}

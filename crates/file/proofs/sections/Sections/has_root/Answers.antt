@@ -1,4 +1,4 @@
-use Rattle.std.proofs.Common.{◌≡◌, suc, ◌-◌, sym, ◌∙◌, subst, arith}
+use Rattle.std.proofs.Common.{◌≡◌, ◌-◌, sym, ◌∙◌, subst, arith}
 use Rattle.file.specs.Format.{record_at, record_of}
 use Rattle.file.specs.Steps.{laid}
 use Rattle.file.proofs.Linking.{root_found, root_other, root_not_last, no_node}

@@ -1,4 +1,3 @@
-use Rattle.std.proofs.Common.{arith}
 use Rattle.file.specs.Steps.{laid}
 use Rattle.file.proofs.Linking.{no_node}
 use Rattle.file.proofs.sections.Sections.reaches.Goals as goal

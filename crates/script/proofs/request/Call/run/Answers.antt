@@ -1,4 +1,4 @@
-use Rattle.std.proofs.Common.{◌≡◌, take, drop, sym, ap, ◌∙◌, arith, take_at}
+use Rattle.std.proofs.Common.{take, drop, sym, ap, ◌∙◌, arith, take_at}
 use Rattle.std.proofs.lemmas.List.{with_items_is}
 use Rattle.script.specs.Runs.{form}
 use Rattle.script.proofs.request.Call.run.Goals as goal

@@ -1,4 +1,4 @@
-use Rattle.std.proofs.Common.{Some, None, subst}
+use Rattle.std.proofs.Common.{subst}
 use Rattle.std.proofs.lemmas.Result.{err_from_is_err_and}
 use Rattle.script.specs.Cuts.{CutAt}
 use Rattle.script.proofs.Requested.{idle, no_second, no_call, no_room, text_refused}

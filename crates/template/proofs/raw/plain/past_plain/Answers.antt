@@ -1,9 +1,8 @@
-use Rattle.std.proofs.Common.{◌≡◌, ◌<◌, false, eqb, ◌++◌, length, get_or, ap, ◌∙◌, arith, rules, ltb-false, ltb-true}
+use Rattle.std.proofs.Common.{◌≡◌, ◌<◌, eqb, ◌++◌, length, get_or, ap, ◌∙◌, arith, rules, ltb-false, ltb-true}
 use lib.Utf8.{encode}
-use Rattle.std.proofs.lemmas.Bool.{eq-eqb, ne_eqb}
-use Rattle.template.specs.Grammar.{starts}
-use Rattle.template.proofs.Fronting.{starts_true, starts_false}
-use Rattle.template.proofs.Parting.{unread, tick_frontless, dollar_frontless, plain_at}
+use Rattle.std.proofs.lemmas.Bool.{eq-eqb}
+use Rattle.template.proofs.Fronting.{starts_true}
+use Rattle.template.proofs.Parting.{tick_frontless, dollar_frontless, plain_at}
 use Rattle.template.proofs.raw.plain.past_plain.Goals as goal
 
 pub returns-in-96 : goal.returns-in-96

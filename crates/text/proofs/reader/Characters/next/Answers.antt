@@ -1,4 +1,4 @@
-use Rattle.std.proofs.Common.{◌≡◌, ◌-◌, ◌<◌, ◌≤◌, false, ◌&&◌, ◌++◌, length, take, drop, sym, refl, ap, ◌∙◌, inl, arith}
+use Rattle.std.proofs.Common.{◌≡◌, ◌<◌, ◌≤◌, false, ◌&&◌, ◌++◌, length, drop, sym, refl, ap, ◌∙◌, inl, arith}
 use lib.Utf8.{encode}
 use Rattle.std.proofs.lemmas.List.{nil_from_length, take_rest}
 use Rattle.std.proofs.lemmas.Bool.{eqb-true, eqb-false, and_left, and_right}
