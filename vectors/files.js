@@ -567,9 +567,12 @@ write('crates', 'filevectors', 'stdin')(lines.map(([command]) => command + '\n')
 write('crates', 'filevectors', 'stdout')(lines.map(([, answer]) => answer + '\n').join(''));
 const quote = parts(QUOTE);
 write('crates', 'payoff', 'data', 'quote.payoff')(bytesOf(quote));
-write('crates', 'payoff', 'stdout')(`file      quote.payoff, ${bytesOf(quote).length} bytes
-holds     ${quote.nodes.length} nodes, ${quote.entries.length} list entries, ${quote.text.length} bytes of text
-tree      ${printed(QUOTE)}
-`);
+const readme = path.join(root, 'README.md');
+if (fs.existsSync(readme)) {
+  const shown = [`file      quote.payoff, ${bytesOf(quote).length} bytes`,
+    `holds     ${quote.nodes.length} nodes, ${quote.entries.length} list entries, ${quote.text.length} bytes of text`,
+    `tree      ${printed(QUOTE)}`].map((line) => `    ${line}\n`).join('');
+  if (!fs.readFileSync(readme, 'utf8').includes(shown)) throw new Error('README.md shows another tree of the quote');
+}
 for (const key of Object.keys(counts).sort()) console.log(`${counts[key]} ${key}`);
 console.log(`${lines.length} in all, ${damagedBytes} bytes damaged`);
