@@ -1,9 +1,9 @@
 // Makes the vectors of files: node vectors/files.js
 //
 // Writes crates/filevectors/stdin, a command on each line, and crates/filevectors/stdout, the answer to each;
-// crates/payoff/data/quote.payoff, and crates/payoff/stdout, what is printed of it; and checks the example of
-// docs/FORMAT.md. The answers are those of the checker in format.js. Random trees and damage come from a fixed start, so
-// that every run writes the same files.
+// crates/payoff/data/quote.payoff; and checks the example of docs/FORMAT.md and what README.md shows of the quote. The
+// answers are those of the checker in format.js. Random trees and damage come from a fixed start, so that every run
+// writes the same files.
 'use strict';
 const fs = require('fs');
 const path = require('path');

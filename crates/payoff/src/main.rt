@@ -48,13 +48,11 @@ impl Command {
         match (word.as_str(), rest.is_empty()) {
             ("show", false) => Ok(Command::Show(rest)),
             ("show", true) => Err(anyhow!("show which files? See payoff help")),
+            (_, false) => Err(anyhow!("more than one word: see payoff help")),
             ("label", true) => Ok(Command::Label),
             ("quote", true) => Ok(Command::Quote),
             ("script", true) => Ok(Command::Script),
             ("help", true) => Ok(Command::Help),
-            ("label" | "quote" | "script" | "help", false) => Err(anyhow!(
-                "more than one word: see payoff help"
-            )),
             _ => Err(anyhow!(format!(in heap; "no command `{word}`: see payoff help")?)),
         }
     }
