@@ -40,7 +40,7 @@ pub data Hint : Type 0 where
   for_number for_text : Hint
 
 -- A world. State is everything that a run can change. The five functions that come first may change the state, may throw
--- and may never end. `primitive` and `spread-out` may throw, and end, and change no state: the objects that reach a payoff
+-- and may never end. `primitive` and `spread_out` may throw, and end, and change no state: the objects that reach a payoff
 -- are converted by code that does no more than that. The others are functions of the language.
 pub record World : Type 1 where
   pub State : Type 0

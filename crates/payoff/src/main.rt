@@ -10,6 +10,7 @@ mod label;
 use anyhow::anyhow;
 use std::alloc::Global;
 use std::env;
+use std::process::ExitCode;
 
 const HELP: &str =
     "payoff              escape the label of a quote into template text, cook it back, and compare
@@ -58,12 +59,14 @@ impl Command {
     }
 }
 
-fn main(rt: HostRuntime) -> anyhow::Result<()> {
-    let result = run(&rt);
-    if let Err(error) = &result {
-        let _ = eprintln!(rt; "payoff: {error}");
+fn main(rt: HostRuntime) -> ExitCode {
+    match run(&rt) {
+        Ok(()) => ExitCode::SUCCESS,
+        Err(error) => {
+            let _ = eprintln!(rt; "payoff: {error}");
+            ExitCode::FAILURE
+        }
     }
-    result
 }
 
 fn run(rt: &HostRuntime) -> anyhow::Result<()> {

@@ -74,7 +74,7 @@ first (c ∷ cs) =
     (cond (eqb c 0x5C) (escape_at cs)
     (cond (is_line_terminator c) (Some (line_end (line_at c cs))) None)))
 
--- The tests is-other and is-non-escape pass where each part does.
+-- The tests is_other and is_non_escape pass where each part does.
 all_pass : (a b c : Bool) → a ≡ true → b ≡ false → c ≡ false → (a && not b && not c) ≡ true
 all_pass a b c x y z = and_from (a && not b) (not c) (and_from a (not b) x (not_from_false b y)) (not_from_false c z)
 

@@ -7,7 +7,7 @@ use super::front::{before, split_char};
 
 // What follows the character at the front of the bytes, if it may stand in a run: no ` and no $ before {.
 fn past_plain(bytes: &[u8]) -> Option<&[u8]>
-    requires { (0 < length bytes.now) × ((slice_index bytes.now 0 ≢ 0x5C)) }
+    requires { (0 < length bytes.now) × (slice_index bytes.now 0 ≢ 0x5C) }
     ensures { MatchOption result (Frontless bytes.now) (λ rest. PlainAt bytes.now rest.now) }
 {
     let Some((c, rest)) = split_char(bytes) else {
@@ -25,7 +25,7 @@ fn past_plain(bytes: &[u8]) -> Option<&[u8]>
 
 // The longest run without a backslash.
 pub(crate) fn plain(raw: &[u8]) -> Option<RawPart<'_>>
-    requires { (0 < length raw.now) × ((slice_index raw.now 0 ≢ 0x5C)) }
+    requires { (0 < length raw.now) × (slice_index raw.now 0 ≢ 0x5C) }
     ensures { Parts raw.now result }
 {
     let mut rest = raw;
