@@ -1,7 +1,7 @@
 // Makes the vectors of template text, units, joining and comparing: node vectors/make.js
 //
-// Writes crates/vectors/stdin, a command on each line, and crates/vectors/stdout, the answer to each; and the same of
-// comparing in crates/comparevectors.
+// Writes crates/vectors/stdin, a command on each line, and crates/vectors/stdout, the answer to each; the same of comparing
+// in crates/comparevectors; and some lines of the line protocol in crates/linevectors.
 // What a raw text cooks to, the units of a text and what two texts join to are what this JavaScript engine
 // makes of them. The random texts come from a fixed start, so that every run writes the same files.
 'use strict';
@@ -307,5 +307,8 @@ function write(crate, made) {
 }
 write('vectors', vectors);
 write('comparevectors', comparisons);
+// Of the line protocol a sample of the requests, and all lines that are none.
+write('linevectors', vectors.filter(([command]) => !/^(lawful|units|unit|join) /.test(command))
+  .filter(([, answer], i) => i % 30 === 0 || answer === 'malformed'));
 for (const key of Object.keys(counts).sort()) console.log(`${counts[key]} ${key}`);
 console.log(`${vectors.length} and ${comparisons.length} in all`);

@@ -20,11 +20,12 @@ payoff show FILE..  print the tree of each file, as PATH: TREE; the status is 1 
 payoff script       answer the requests on standard input, one to a line:
                         escape HEX [ROOM]    the raw template text of a text
                         cook HEX [ROOM]      the text that raw template text cooks to
+                    HEX is lower-case hexadecimal, two digits to a byte; ROOM is the size of the output in bytes
+                    the answer is: ok HEX, refused NUMBER layer LAYER node NODE, or malformed
+payoff cases        the same, and with it
                         case HEX NODES,ENTRIES,BYTES TEMPLATES POWER CALL..
                                              what comes of loading a file, and of each call
-                    HEX is lower-case hexadecimal, two digits to a byte; ROOM is the size of the output in bytes
                     NODES,ENTRIES,BYTES are the sizes of the stores; TEMPLATES and POWER are 0 or 1; a CALL is tree
-                    the answer is: ok HEX, refused NUMBER layer LAYER node NODE, or malformed
                     a loaded case is answered: loaded; TREE..; end ROOT 0 NODES ENTRIES BYTES
 payoff help         print this";
 
@@ -35,6 +36,7 @@ enum Command {
     Quote,
     Show(Vec<String>),
     Script,
+    Cases,
     Help,
 }
 
@@ -53,6 +55,7 @@ impl Command {
             ("label", true) => Ok(Command::Label),
             ("quote", true) => Ok(Command::Quote),
             ("script", true) => Ok(Command::Script),
+            ("cases", true) => Ok(Command::Cases),
             ("help", true) => Ok(Command::Help),
             _ => Err(anyhow!(format!(in heap; "no command `{word}`: see payoff help")?)),
         }
@@ -74,7 +77,8 @@ fn run(rt: &HostRuntime) -> anyhow::Result<()> {
         Command::Label => label::show(rt)?,
         Command::Quote => files::show_quote(rt)?,
         Command::Show(paths) => files::show_all(rt, paths.as_slice())?,
-        Command::Script => cases::serve(rt)?,
+        Command::Script => script::serve(rt)?,
+        Command::Cases => cases::serve(rt)?,
         Command::Help => println!(rt; "{HELP}")?,
     }
     Ok(())
