@@ -1,5 +1,5 @@
 -- The walk over a text: what one more code point adds.
-use Rattle.std.proofs.Common.{◌≡◌, ℕ, zero, suc, ◌+◌, ◌-◌, ◌<◌, ◌≤◌, true, false, ◌&&◌, List, [], ◌∷◌, ◌++◌, length, Some, None, Ok, Option, sym, refl, ap, ◌∙◌, subst, inl, inr, append_assoc, arith, length-append, MatchOption}
+use Rattle.std.proofs.Common.{◌≡◌, ℕ, zero, suc, ◌+◌, ◌-◌, ◌<◌, ◌≤◌, true, false, ◌&&◌, List, [], ◌∷◌, ◌++◌, length, Some, None, Ok, Err, Option, Result, MatchBool, is_ok, sym, refl, ap, ◌∙◌, subst, inl, inr, append_assoc, arith, length-append, MatchOption}
 use lib.Utf8.{encode, encodes}
 use Rattle.std.specs.List.{slice_get}
 use Rattle.std.proofs.lemmas.List.{append-nil}
@@ -13,8 +13,8 @@ use Rattle.text.specs.declared.reader.Characters.{Characters}
 use Rattle.text.specs.declared.survey.Survey.{Survey}
 use Rattle.text.specs.Reader.{rest_of, led_of, Readable, Next}
 use Rattle.text.specs.Stored.{Lawful}
-use Rattle.text.specs.Survey.{EndsWith}
-use Rattle.text.proofs.Pairing.{canonical_append, ends_push, units_append, utf16_below, utf16_above, unlawful_more}
+use Rattle.text.specs.Survey.{EndsWith, Surveyed}
+use Rattle.text.proofs.Pairing.{canonical_append, ends_push, units_append, utf16_below, utf16_above, unlawful_more, stores_points}
 use Rattle.text.proofs.Stepping.{goes_on}
 use Rattle.text.proofs.Widths.{Width, w1, w2, w3, w4, width_of}
 
@@ -91,3 +91,9 @@ pub walk_refused : (text : List ℕ) (n : ℕ) (s : Characters) (found : Survey)
 walk_refused text n s found e w (inl (p, q)) =
     inl (p, unlawful_more w.0 (rest_of s) text w.2 (λ cs k same. q (goes_on (led_of s) (rest_of s) cs (subst (λ b. Canonical b cs) (sym w.3) k) same)))
 walk_refused text n s found e w (inr (p, q)) = absurd q
+
+-- A walk is not refused exactly where the text is lawful.
+pub lawful_where_surveyed : (text : List ℕ) (n : ℕ) (r : Result Survey Fault) → Surveyed text n r → MatchBool (is_ok r) (Lawful text) (Lawful text → ⊥)
+lawful_where_surveyed text n (Ok s) k = (units k.0, stores_points text k.0 k.1.0 k.1.1)
+lawful_where_surveyed text n (Err e) (inl r) = r.1
+lawful_where_surveyed text n (Err e) (inr r) = absurd r.1

@@ -69,7 +69,7 @@ fn four(a: u8, b: u8, c: u8, d: u8) -> Option<u32>
 fn byte_at(bytes: &[u8], i: usize) -> u8
     ensures { result ≡ slice_index bytes.now i }
 {
-    if i < bytes.len() { bytes[i] } else { 0 }
+    bytes.get(i).copied().unwrap_or(0)
 }
 
 // The code point at the front of the bytes, which its first byte says to take `len` bytes.
@@ -91,13 +91,11 @@ fn code_point(bytes: &[u8], len: usize) -> Option<u32>
 pub fn first_character(bytes: &[u8]) -> Option<Character<'_>>
     ensures { MatchOption result (Lacks bytes.now 0x110000) (Reads bytes.now) }
 {
-    let Some(lead) = bytes.first() else {
+    let [lead, ..] = bytes else {
         return None;
     };
     let len = character_len(*lead);
-    let Some(code) = code_point(bytes, len) else {
-        return None;
-    };
+    let code = code_point(bytes, len)?;
     Some(Character {
         code,
         bytes: &bytes[0..len],

@@ -10,10 +10,7 @@ use base::Fault;
 pub fn is_lawful(text: &[u8]) -> bool
     ensures { MatchBool result (Lawful text.now) (Lawful text.now → ⊥) }
 {
-    match walk(text, 0) {
-        Ok(_) => true,
-        Err(_) => false,
-    }
+    walk(text, 0).is_ok()
 }
 
 // How many units the text has.
