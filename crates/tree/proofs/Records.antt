@@ -5,7 +5,7 @@ use Rattle.std.proofs.lemmas.List.{set-append_right}
 use Rattle.std.proofs.lemmas.Bool.{and_from, and_parts, cases_Bool, leb-true, le-leb}
 use Rattle.tree.specs.declared.node.Node.{Node}
 use Rattle.tree.specs.declared.node.Node.TheVariants.{String, Number, Boolean, Null, Name, Hole, Spread, Array, StaticMember, ComputedMember, Call, Template, Quasi, Unary, Binary, Opaque}
-use Rattle.tree.specs.declared.node.TextRun.{TextRun}
+use Rattle.tree.specs.declared.run.Run.{Run}
 use Rattle.tree.specs.Tree.{Own, string, name, static_member, quasi}
 use Rattle.tree.specs.Heap.{within, text_at, entries_at, links, list_of, texts_of, own, children, all_within, inside, read, with_link}
 use Rattle.tree.specs.Laws.{count}
@@ -66,7 +66,7 @@ alike_with (Binary op x y) zero m = (refl, refl, λ bytes. refl)
 alike_with (Binary op x y) (suc i) m = (refl, refl, λ bytes. refl)
 alike_with (Opaque es k f) i m = (refl, refl, λ bytes. refl)
 
-text_more : (bytes more : List ℕ) (t : TextRun) → within bytes t.start t.len ≡ true → text_at (bytes ++ more) t ≡ text_at bytes t
+text_more : (bytes more : List ℕ) (t : Run ℕ) → within bytes t.start t.len ≡ true → text_at (bytes ++ more) t ≡ text_at bytes t
 text_more bytes more t e = cut_more bytes t.start t.len more (leb-true (t.start + t.len) (length bytes) e)
 
 -- Its texts are the same with more text behind.
@@ -95,7 +95,7 @@ own_more (Opaque es m f) bytes more e = refl
 within_more : (xs ys : List ℕ) (start len : ℕ) → within xs start len ≡ true → within (xs ++ ys) start len ≡ true
 within_more xs ys start len e = le-leb (start + len) (length (xs ++ ys)) (omega (arith, length-append xs ys, leb-true (start + len) (length xs) e))
 
-all_within_more : (bytes more : List ℕ) (ts : List TextRun) → all_within bytes ts ≡ true → all_within (bytes ++ more) ts ≡ true
+all_within_more : (bytes more : List ℕ) (ts : List (Run ℕ)) → all_within bytes ts ≡ true → all_within (bytes ++ more) ts ≡ true
 all_within_more bytes more [] e = refl
 all_within_more bytes more (t ∷ ts) e =
     let two = and_parts (within bytes t.start t.len) (all_within bytes ts) e in

@@ -3,8 +3,7 @@ use Rattle.std.specs.Prelude.{ℕ, zero, suc, ◌+◌, ◌-◌, Bool, true, cond
 use Rattle.std.specs.List.{slice_get}
 use Rattle.tree.specs.declared.node.Node.{Node}
 use Rattle.tree.specs.declared.node.Node.TheVariants.{String, Number, Boolean, Null, Name, Hole, Spread, Array, StaticMember, ComputedMember, Call, Template, Quasi, Unary, Binary, Opaque}
-use Rattle.tree.specs.declared.node.TextRun.{TextRun}
-use Rattle.tree.specs.declared.node.ListRun.{ListRun}
+use Rattle.tree.specs.declared.run.Run.{Run}
 use Rattle.tree.specs.Tree.{Own, string, number, boolean, null, name, hole, spread, array, static_member, computed_member, call, template, quasi, unary, binary, opaque, Look}
 
 -- What the stores hold.
@@ -20,10 +19,10 @@ cut xs start len = take len (drop start xs)
 abbrev pub within : {X : Type 0} → List X → ℕ → ℕ → Bool
 within xs start len = nat_le (start + len) (length xs)
 
-abbrev pub text_at : List ℕ → TextRun → List ℕ
+abbrev pub text_at : List ℕ → Run ℕ → List ℕ
 text_at bytes r = cut bytes r.start r.len
 
-abbrev pub entries_at : List ℕ → ListRun → List ℕ
+abbrev pub entries_at : List ℕ → Run ℕ → List ℕ
 entries_at es r = cut es r.start r.len
 
 -- The numbers that the record itself links to.
@@ -46,10 +45,10 @@ links (Binary op x y) = x ∷ y ∷ []
 links (Opaque es m f) = []
 
 -- Its piece of the list store, empty for a kind that has none.
-abbrev pub no_list : ListRun
-no_list = record { start = 0; len = 0 }
+abbrev pub no_list : Run ℕ
+no_list = record { start = 0; len = 0; of = record {} }
 
-abbrev pub list_of : Node → ListRun
+abbrev pub list_of : Node → Run ℕ
 list_of (String t) = no_list
 list_of (Number n) = no_list
 list_of (Boolean b) = no_list
@@ -68,7 +67,7 @@ list_of (Binary op x y) = no_list
 list_of (Opaque es m f) = es
 
 -- Its pieces of the text store.
-abbrev pub texts_of : Node → List TextRun
+abbrev pub texts_of : Node → List (Run ℕ)
 texts_of (String t) = t ∷ []
 texts_of (Number n) = []
 texts_of (Boolean b) = []
@@ -110,7 +109,7 @@ abbrev pub children : List ℕ → Node → List ℕ
 children es n = links n ++ entries_at es (list_of n)
 
 -- The record's pieces lie within the stores.
-abbrev pub all_within : List ℕ → List TextRun → Bool
+abbrev pub all_within : List ℕ → List (Run ℕ) → Bool
 all_within bytes [] = true
 all_within bytes (t ∷ ts) = within bytes t.start t.len && all_within bytes ts
 

@@ -11,5 +11,6 @@ pub use laws::{
     a_number_denotes_one_tree, lawful_numbers_make_a_lawful_tree, lower_links_make_one_tree,
     one_changed_link_changes_one_place,
 };
-pub use node::{BinaryOperator, FirstChild, ListRun, Node, TextRun, UnaryOperator};
+pub use node::{BinaryOperator, FirstChild, Node, UnaryOperator};
 pub use role::{Child, Role, Sort};
+pub use run::{ListRun, Run, TextRun};

@@ -1,25 +1,16 @@
-// A piece of the text store: where it begins, and how many bytes it has.
-#[derive(Clone, Copy)]
-pub struct TextRun {
-    pub start: u32,
-    pub len: u32,
-}
+ghost use Rattle.std.specs.Prelude.{◌≡◌, ◌+◌, length};
 
-// A piece of the list store: where it begins, and how many entries it has.
-#[derive(Clone, Copy)]
-pub struct ListRun {
-    pub start: u32,
-    pub len: u32,
-}
+use super::role::{Child, Links, Role, Sort};
+use super::run::{ListRun, TextRun};
 
-#[derive(Clone, Copy)]
+#[derive(Clone, Copy, Debug, PartialEq, Eq)]
 pub enum UnaryOperator {
     Plus,
     Minus,
     Void,
 }
 
-#[derive(Clone, Copy)]
+#[derive(Clone, Copy, Debug, PartialEq, Eq)]
 pub enum BinaryOperator {
     Exponentiation,
     Subtraction,
@@ -28,7 +19,7 @@ pub enum BinaryOperator {
 
 // What an opaque node does with its first child: run it for its value, or take it as a reference, as `delete` and
 // tagged templates do.
-#[derive(Clone, Copy)]
+#[derive(Clone, Copy, Debug, PartialEq, Eq)]
 pub enum FirstChild {
     Value,
     Reference,
@@ -80,4 +71,104 @@ pub enum Node {
         mark: u32,
         first: FirstChild,
     },
+}
+
+impl Node {
+    ghost use Rattle.tree.specs.Heap.{links, list_of};
+    ghost use Rattle.tree.specs.Roles.{sort_of_node, role_of_node, linked_by, NamesChild};
+
+    // What the node is to its parent.
+    pub fn sort(self) -> Sort
+        ensures { result ≡ sort_of_node self }
+    {
+        match self {
+            Node::Hole => Sort::IsHole,
+            Node::Spread(_) => Sort::IsSpread,
+            Node::Quasi { .. } => Sort::IsQuasi,
+            Node::String(_)
+            | Node::Number(_)
+            | Node::Boolean(_)
+            | Node::Null
+            | Node::Name(_)
+            | Node::Array(_)
+            | Node::StaticMember { .. }
+            | Node::ComputedMember { .. }
+            | Node::Call { .. }
+            | Node::Template(_)
+            | Node::Unary { .. }
+            | Node::Binary { .. }
+            | Node::Opaque { .. } => Sort::IsExpression,
+        }
+    }
+
+    // Where the node's child k stands.
+    pub fn role(self, k: usize) -> Role
+        ensures { result ≡ role_of_node self k }
+    {
+        match self {
+            Node::Array(_) => Role::Element,
+            Node::Call { .. } if k > 0 => Role::Argument,
+            Node::Template(_) if k % 2 == 0 => Role::QuasiPart,
+            _ => Role::Operand,
+        }
+    }
+
+    // How many children the node names.
+    pub fn child_count(self) -> usize
+        ensures { result ≡ length (links self) + (list_of self).len }
+    {
+        self.links().count() + self.list().len as usize
+    }
+
+    // Where the node names its child k, links before list.
+    pub fn child(self, k: usize) -> Option<Child>
+        ensures { NamesChild self k result }
+    {
+        let links = self.links();
+        if let Some(number) = links.at(k) {
+            return Some(Child::Link(number));
+        }
+        let list = self.list();
+        let k = k - links.count();
+        if k < list.len as usize {
+            Some(Child::Entry(list.start as usize + k))
+        } else {
+            None
+        }
+    }
+
+    // The numbers that the record itself links to.
+    fn links(self) -> Links
+        ensures { linked_by result ≡ links self }
+    {
+        match self {
+            Node::Spread(x)
+            | Node::StaticMember { object: x, .. }
+            | Node::Call { callee: x, .. }
+            | Node::Unary { operand: x, .. } => Links::One(x),
+            Node::ComputedMember { object: x, key: y }
+            | Node::Binary {
+                left: x,
+                right: y,
+                ..
+            } => Links::Two(x, y),
+            _ => Links::Zero,
+        }
+    }
+
+    // The node's piece of the list store, empty for a kind that has none.
+    fn list(self) -> ListRun
+        ensures { result ≡ list_of self }
+    {
+        match self {
+            Node::Array(list)
+            | Node::Call {
+                arguments: list,
+                ..
+            }
+            | Node::Template(list)
+            | Node::Opaque { children: list, .. } => list,
+            _ => ListRun::new(0, 0),
+        }
+    }
 }

@@ -1,35 +1,41 @@
 // Pieces of the stores.
-ghost use Rattle.tree.specs.Pieces.{PieceOf};
+ghost use Rattle.std.specs.Prelude.{◌≡◌};
 
-use super::node::{ListRun, TextRun};
+use std::marker::PhantomData;
 
-// The `len` items from `start` on, or nothing where they do not lie within.
-fn piece<T>(items: &[T], start: u32, len: u32) -> Option<&[T]>
-    ensures { PieceOf items.now start len result }
-{
-    let start = start as usize;
-    let end = start + len as usize;
-    if end <= items.len() {
-        Some(&items[start..end])
-    } else {
-        None
-    }
+// A piece of a store of `T`: where it begins, and how many items it has.
+#[derive(Clone, Copy)]
+pub struct Run<T> {
+    pub start: u32,
+    pub len: u32,
+    of: PhantomData<T>,
 }
 
-impl TextRun {
-    // This piece of a text, or nothing where it does not lie within.
-    pub fn of(self, text: &[u8]) -> Option<&[u8]>
-        ensures { PieceOf text.now self.start self.len result }
-    {
-        piece(text, self.start, self.len)
-    }
-}
+// A piece of the text store.
+pub type TextRun = Run<u8>;
 
-impl ListRun {
-    // This piece of a list, or nothing where it does not lie within.
-    pub fn of(self, entries: &[u32]) -> Option<&[u32]>
-        ensures { PieceOf entries.now self.start self.len result }
+// A piece of the list store.
+pub type ListRun = Run<u32>;
+
+impl<T> Run<T> {
+    ghost use Rattle.tree.specs.Pieces.{PieceOf};
+
+    pub fn new(start: u32, len: u32) -> Run<T>
+        ensures start { result.start ≡ start }
+        ensures len { result.len ≡ len }
     {
-        piece(entries, self.start, self.len)
+        Run {
+            start,
+            len,
+            of: PhantomData,
+        }
+    }
+
+    // This piece of a store's items, or nothing where it does not lie within.
+    pub fn of(self, items: &[T]) -> Option<&[T]>
+        ensures { PieceOf items.now self.start self.len result }
+    {
+        let start = self.start as usize;
+        items.get(start..start + self.len as usize)
     }
 }
