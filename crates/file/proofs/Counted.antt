@@ -1,7 +1,7 @@
 -- Words and pieces, by their number.
 use Rattle.std.proofs.Common.{◌≡◌, ℕ, zero, suc, ◌+◌, ◌%◌, Bool, true, false, ◌&&◌, eqb, List, length, MatchBool, sym, refl, ap, ◌∙◌, subst, inl, inr, arith}
 use Rattle.std.proofs.lemmas.Bool.{cases_Bool, leb-true, eqb-true, eq-eqb}
-use Rattle.tree.specs.declared.node.ListRun.{ListRun}
+use Rattle.tree.specs.declared.run.Run.{Run}
 use Rattle.tree.specs.declared.node.Node.{Node}
 use Rattle.tree.specs.declared.node.Node.TheVariants.{Template, Opaque}
 use Rattle.tree.specs.declared.node.FirstChild.{FirstChild}
@@ -22,7 +22,7 @@ and_true : (b : Bool) → b ≡ true → (b && true) ≡ true
 and_true b e = ap (λ x. x && true) e
 
 -- A template whose list lies within its section is lawful if it has an odd number of entries.
-pub template_lawful : (es text : List ℕ) (n : Node) (l : ListRun) → n ≡ Template l → within es l.start l.len ≡ true → MatchBool (eqb (l.len % 2) 1) (LawfulNode es text n) (LawfulNode es text n → ⊥)
+pub template_lawful : (es text : List ℕ) (n : Node) (l : Run ℕ) → n ≡ Template l → within es l.start l.len ≡ true → MatchBool (eqb (l.len % 2) 1) (LawfulNode es text n) (LawfulNode es text n → ⊥)
 template_lawful es text n l is t =
     let len = length_cut es l.start l.len (leb-true (l.start + l.len) (length es) t) in
     subst (λ m. MatchBool (eqb (l.len % 2) 1) (LawfulNode es text m) (LawfulNode es text m → ⊥)) (sym is)
@@ -37,7 +37,7 @@ begins_any : (m : ℕ) (f : FirstChild) (n : ℕ) → LawfulOwn (opaque m f) n �
 begins_any m Value n = refl
 begins_any m Reference n = refl
 
-pub opaque_lawful : (es text : List ℕ) (n : Node) (l : ListRun) (m : ℕ) (f : FirstChild) (b : Bool) → n ≡ Opaque l m f → within es l.start l.len ≡ true → MatchBool b (Begins f l.len) (Begins f l.len → ⊥)
+pub opaque_lawful : (es text : List ℕ) (n : Node) (l : Run ℕ) (m : ℕ) (f : FirstChild) (b : Bool) → n ≡ Opaque l m f → within es l.start l.len ≡ true → MatchBool b (Begins f l.len) (Begins f l.len → ⊥)
     → MatchBool b (LawfulNode es text n) (LawfulNode es text n → ⊥)
 opaque_lawful es text n l m f b is t w =
     let len = length_cut es l.start l.len (leb-true (l.start + l.len) (length es) t) in

@@ -5,16 +5,16 @@ use Rattle.tree.specs.declared.node.Node.TheVariants.{String, Number, Boolean, N
 use Rattle.tree.specs.declared.node.UnaryOperator.TheVariants.{Plus, Minus, Void}
 use Rattle.tree.specs.declared.node.BinaryOperator.TheVariants.{Exponentiation, Subtraction, Division}
 use Rattle.tree.specs.declared.node.FirstChild.TheVariants.{Value, Reference}
-use Rattle.tree.specs.declared.node.TextRun.{TextRun}
-use Rattle.tree.specs.declared.node.ListRun.{ListRun}
+use Rattle.tree.specs.declared.run.Run.{Run}
+use Rattle.tree.specs.declared.run.Run.{Run}
 use Rattle.file.specs.declared.record.Record.{Record}
 use Rattle.file.specs.Format.{record_of}
 
-abbrev text_run : ℕ → ℕ → TextRun
-text_run start len = record { start = start; len = len }
+abbrev text_run : ℕ → ℕ → Run ℕ
+text_run start len = record { start = start; len = len; of = record {} }
 
-abbrev list_run : ℕ → ℕ → ListRun
-list_run start len = record { start = start; len = len }
+abbrev list_run : ℕ → ℕ → Run ℕ
+list_run start len = record { start = start; len = len; of = record {} }
 
 -- The node of a record, by its kind and flag.
 abbrev back : Record → Node

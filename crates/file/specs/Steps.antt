@@ -17,7 +17,7 @@ use Rattle.file.specs.Lawful.{size_questions, record_questions, link_questions, 
 use Rattle.text.specs.Stored.{Lawful}
 use Rattle.template.specs.Cooked.{CooksTo}
 use Rattle.tree.specs.declared.node.FirstChild.{FirstChild}
-use Rattle.tree.specs.declared.node.TextRun.{TextRun}
+use Rattle.tree.specs.declared.run.Run.{Run}
 use Rattle.tree.specs.Tree.{opaque}
 use Rattle.tree.specs.Lawful.{LawfulOwn, admits}
 use Rattle.tree.specs.declared.node.Node.{Node}
@@ -74,10 +74,10 @@ abbrev pub Begins : FirstChild → ℕ → Type 0
 Begins first n = LawfulOwn (opaque 0 first) n
 
 -- A text that lies within its section and is lawful, and two of which the first cooks to the second.
-abbrev pub TextIn : List ℕ → TextRun → Type 0
+abbrev pub TextIn : List ℕ → Run ℕ → Type 0
 TextIn text t = (within text t.start t.len ≡ true) × Lawful (text_at text t)
 
-abbrev pub CookedIn : List ℕ → TextRun → TextRun → Type 0
+abbrev pub CookedIn : List ℕ → Run ℕ → Run ℕ → Type 0
 CookedIn text raw cooked =
     (within text raw.start raw.len ≡ true) × (within text cooked.start cooked.len ≡ true)
     × CooksTo (text_at text raw) (text_at text cooked)

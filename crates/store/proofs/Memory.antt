@@ -1,5 +1,6 @@
 -- What a store holds, at the front of its memory.
-use Rattle.std.proofs.Common.{◌≡◌, ℕ, zero, suc, ◌+◌, ◌≤◌, Bool, true, false, cond, List, [], ◌∷◌, ◌++◌, length, take, drop, Some, None, Ok, Option, sym, refl, ap, ◌∙◌, arith, length-append, take_at}
+use Rattle.std.proofs.Common.{◌≡◌, ℕ, ◌+◌, ◌≤◌, Bool, true, false, cond, List, ◌++◌, length, take, drop, Some, None, Ok, Option, sym, refl, ap, ◌∙◌, arith, length-append, take_at}
+use Rattle.std.proofs.lemmas.List.{length-take-le}
 use Rattle.std.specs.List.{slice_get}
 use Rattle.base.specs.Runs.{Appended}
 use Rattle.tree.specs.declared.node.Node.{Node}
@@ -7,23 +8,16 @@ use Rattle.tree.specs.Tree.{Own, tree, labels}
 use Rattle.tree.specs.Heap.{Held, own, children, inside, read, look}
 use Rattle.store.specs.Stores.{Shows, ShowsTop}
 
--- A front, taken by its own length.
-pub take_front : {X : Type 0} (n : ℕ) (xs : List X) → take (length (take n xs)) xs ≡ take n xs
-take_front zero xs = refl
-take_front (suc n) [] = refl
-take_front (suc n) (x ∷ xs) = ap (λ ys. x ∷ ys) (take_front n xs)
-
 -- Appending behind what is held.
-pub appended : {X : Type 0} (n : ℕ) (xs more new : List X) (count end : ℕ) → count ≡ length (take n xs) → Appended xs count more new (Ok end)
-    → (take end new ≡ take n xs ++ more) × (new ≡ (take n xs ++ more) ++ drop (length (take n xs ++ more)) xs) × (length (take n xs) + length more ≤ length xs)
-appended n xs more new count end c a =
-    let front : take count xs ≡ take n xs = ap (λ k. take k xs) c ∙ take_front n xs in
-    let long : length (take n xs ++ more) ≡ end = omega (arith, a.0, length-append (take n xs) more) in
-    let whole : new ≡ (take n xs ++ more) ++ drop end xs =
-    a.2 ∙ ap (λ l. l ++ more ++ drop end xs) front in (
-      ap (take end) whole ∙ take_at (take n xs ++ more) (drop end xs) end long,
-      whole ∙ ap (λ k. (take n xs ++ more) ++ drop k xs) (sym long),
-      omega (arith, a.0, a.1),
+pub appended : {X : Type 0} (xs more new : List X) (count end : ℕ) → count ≤ length xs → Appended xs count more new (Ok end)
+    → (take end new ≡ take count xs ++ more) × (new ≡ (take count xs ++ more) ++ drop (length (take count xs ++ more)) xs) × (length (take count xs) + length more ≤ length xs)
+appended xs more new count end fits a =
+    let front : length (take count xs) ≡ count = length-take-le count xs fits in
+    let long : length (take count xs ++ more) ≡ end = omega (arith, a.0, front, length-append (take count xs) more) in
+    let whole : new ≡ (take count xs ++ more) ++ drop end xs = a.2 in (
+      ap (take end) whole ∙ take_at (take count xs ++ more) (drop end xs) end long,
+      whole ∙ ap (λ k. (take count xs ++ more) ++ drop k xs) (sym long),
+      omega (arith, a.0, a.1, front),
     )
 
 -- What a record shows of a tree that its number denotes.

@@ -1,8 +1,68 @@
-// A run of items that grows within a slice that the caller lends: the first `len` of them, or all where there are fewer.
+ghost use Rattle.std.specs.Prelude.{◌≡◌, ◌≤◌, [], length};
+ghost use Rattle.std.specs.List.{slice_get};
+
+use base::{Fault, append};
+
+// A run of items that grows within a slice that the caller lends: the first `len` of them are held.
 #[derive(Drop)]
 pub struct Store<'a, T> {
     items: &'a mut [T],
     len: usize,
+    ghost within: { len ≤ length items.now },
 }
 
-mod methods;
+impl<'a, T: Copy> Store<'a, T> {
+    ghost use Rattle.store.specs.Held.{lent, held, room, AppendsTo};
+
+    // An empty store within the slice.
+    pub fn new(items: &'a mut [T]) -> Store<'a, T>
+        ensures empty { held result ≡ [] }
+        ensures memory { lent result ≡ items.old }
+    {
+        Store { items, len: 0 }
+    }
+
+    // How many items the store holds.
+    pub fn count(&self) -> usize
+        ensures { result ≡ length (held self.now) }
+    {
+        self.items().len()
+    }
+
+    // How many items the store has room for.
+    pub fn room(&self) -> usize
+        ensures { result ≡ room self.now }
+    {
+        self.items.len()
+    }
+
+    // The items that the store holds.
+    pub fn items(&self) -> &[T]
+        ensures { result.now ≡ held self.now }
+    {
+        &self.items[0..self.len]
+    }
+
+    // The item at i, if the store holds one there.
+    pub fn get(&self, i: usize) -> Option<T>
+        ensures { result ≡ slice_get (held self.now) i }
+    {
+        self.items().get(i).copied()
+    }
+
+    // Holds nothing from now on. The memory stays as it is.
+    pub fn clear(&mut self)
+        ensures empty { held self.new ≡ [] }
+        ensures memory { lent self.new ≡ lent self.old }
+    {
+        self.len = 0;
+    }
+
+    // Appends all of `more`, or refuses it whole.
+    pub fn append(&mut self, more: &[T]) -> Result<(), Fault>
+        ensures { AppendsTo self.old more.now self.new result }
+    {
+        self.len = append(self.items, self.len, more)?;
+        Ok(())
+    }
+}

@@ -89,15 +89,15 @@ impl Record {
         ensures { MatchOption result ((n : Node) → record_of n ≢ self) (λ n. record_of n ≡ self) }
     {
         match (self.kind, self.flag, self.a, self.b, self.c, self.d) {
-            (1, 0, start, len, 0, 0) => Some(Node::String(TextRun { start, len })),
+            (1, 0, start, len, 0, 0) => Some(Node::String(TextRun::new(start, len))),
             (2, 0, low, high, 0, 0) => Some(Node::Number(high as u64 * 0x1_0000_0000 + low as u64)),
             (3, 0, 0, 0, 0, 0) => Some(Node::Boolean(false)),
             (3, 1, 0, 0, 0, 0) => Some(Node::Boolean(true)),
             (4, 0, 0, 0, 0, 0) => Some(Node::Null),
-            (5, 0, start, len, 0, 0) => Some(Node::Name(TextRun { start, len })),
+            (5, 0, start, len, 0, 0) => Some(Node::Name(TextRun::new(start, len))),
             (6, 0, 0, 0, 0, 0) => Some(Node::Hole),
             (7, 0, operand, 0, 0, 0) => Some(Node::Spread(operand)),
-            (8, 0, start, len, 0, 0) => Some(Node::Array(ListRun { start, len })),
+            (8, 0, start, len, 0, 0) => Some(Node::Array(ListRun::new(start, len))),
             _ => None,
         }
     }
@@ -110,17 +110,17 @@ impl Record {
         match (self.kind, self.flag, self.a, self.b, self.c, self.d) {
             (9, 0, object, start, len, 0) => Some(Node::StaticMember {
                 object,
-                name: TextRun { start, len },
+                name: TextRun::new(start, len),
             }),
             (10, 0, object, key, 0, 0) => Some(Node::ComputedMember { object, key }),
             (11, 0, callee, start, len, 0) => Some(Node::Call {
                 callee,
-                arguments: ListRun { start, len },
+                arguments: ListRun::new(start, len),
             }),
-            (12, 0, start, len, 0, 0) => Some(Node::Template(ListRun { start, len })),
+            (12, 0, start, len, 0, 0) => Some(Node::Template(ListRun::new(start, len))),
             (13, 0, a, b, c, d) => Some(Node::Quasi {
-                raw: TextRun { start: a, len: b },
-                cooked: TextRun { start: c, len: d },
+                raw: TextRun::new(a, b),
+                cooked: TextRun::new(c, d),
             }),
             (14, flag, operand, 0, 0, 0) => {
                 let operator = unary(flag)?;
@@ -135,7 +135,7 @@ impl Record {
                 })
             }
             (16, flag, start, len, mark, 0) => Some(Node::Opaque {
-                children: ListRun { start, len },
+                children: ListRun::new(start, len),
                 mark,
                 first: first_child(flag)?,
             }),
