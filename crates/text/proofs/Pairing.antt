@@ -64,11 +64,6 @@ before_pair h l cs a b = cond-true (leading h && trailing l) _ _ (and_from (lead
 
 -- ---- the code points of the units of code points
 
--- A leading surrogate in front may be left out of account.
-pub canonical_plain : (led : Bool) (cs : List ℕ) → Canonical led cs → Canonical false cs
-canonical_plain led [] k = tt
-canonical_plain led (c ∷ cs) k = (k.0, refl, k.2)
-
 points_of_one : (c : ℕ) (cs us : List ℕ) → c ≤ 0x10FFFF → Canonical (leading c) cs → points us ≡ cs → points (utf16 c ++ us) ≡ c ∷ cs
 points_of_one c cs us h k e =
     ⊎_elim

@@ -1,5 +1,5 @@
 -- The walk over a text: what one more code point adds.
-use Rattle.std.proofs.Common.{◌≡◌, ℕ, zero, suc, ◌+◌, ◌-◌, ◌<◌, ◌≤◌, true, false, ◌&&◌, List, [], ◌∷◌, ◌++◌, length, Some, None, Ok, Err, Option, Result, MatchBool, is_ok, sym, refl, ap, ◌∙◌, subst, inl, inr, append_assoc, arith, length-append, MatchOption}
+use Rattle.std.proofs.Common.{◌≡◌, ℕ, ◌+◌, ◌<◌, ◌≤◌, true, false, ◌&&◌, List, [], ◌∷◌, ◌++◌, length, Some, None, Ok, Err, Option, Result, MatchBool, is_ok, sym, ap, ◌∙◌, subst, inl, inr, append_assoc, arith, length-append, MatchOption}
 use lib.Utf8.{encode, encodes}
 use Rattle.std.specs.List.{slice_get}
 use Rattle.std.proofs.lemmas.List.{append-nil}
@@ -25,17 +25,6 @@ pub encodes_push : (done rest : List ℕ) (c : ℕ) → encodes (done ++ c ∷ [
 encodes_push done rest c =
     ap (λ l. l ++ rest) (encodes-append done (c ∷ []) ∙ ap (λ l. encodes done ++ l) (append-nil (encode c)))
     ∙ append_assoc (encodes done) (encode c) rest
-
--- The element at n of two lists, one behind the other.
-pub nth_left : (xs ys : List ℕ) (n : ℕ) → n < length xs → slice_get (xs ++ ys) n ≡ slice_get xs n
-nth_left [] ys n h = absurd (omega arith)
-nth_left (x ∷ xs) ys zero h = refl
-nth_left (x ∷ xs) ys (suc n) h = nth_left xs ys n (omega arith)
-
-pub nth_right : (xs ys : List ℕ) (n : ℕ) → length xs ≤ n → slice_get (xs ++ ys) n ≡ slice_get ys (n - length xs)
-nth_right [] ys n h = ap (slice_get ys) (omega arith)
-nth_right (x ∷ xs) ys zero h = absurd (omega arith)
-nth_right (x ∷ xs) ys (suc n) h = nth_right xs ys n (omega arith) ∙ ap (slice_get ys) (omega arith)
 
 -- The walk ends with the leading surrogate that it read last.
 pub ends_with : (done : List ℕ) (c : ℕ) (lead : Option ℕ) → MatchOption lead (leading c ≡ false) (λ h. (h ≡ c) × (leading c ≡ true)) → EndsWith lead (done ++ c ∷ [])

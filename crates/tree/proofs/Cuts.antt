@@ -26,10 +26,6 @@ nth_append_left [] ys i x e = absurd (let z : ◌≡◌ {A = ℕ} 0 1 = cc in om
 nth_append_left (y ∷ xs) ys zero x e = e
 nth_append_left (y ∷ xs) ys (suc i) x e = nth_append_left xs ys i x e
 
-pub nth_append_seam : {X : Type 0} (xs : List X) (y : X) (ys : List X) → slice_get (xs ++ y ∷ ys) (length xs) ≡ Some y
-nth_append_seam [] y ys = refl
-nth_append_seam (x ∷ xs) y ys = nth_append_seam xs y ys
-
 -- ---- cuts
 
 module _ {X : Type 0} (xs : List X) (start len : ℕ) where

@@ -1,13 +1,6 @@
-use Rattle.std.proofs.Common.{◌++◌, refl, inl, arith, length-append}
+use Rattle.std.proofs.Common.{arith}
 use Rattle.text.proofs.Seams.{three}
 use Rattle.text.proofs.joining.write.Goals as goal
-
-pub returns-then-not-fits : goal.returns-then-not-fits
-returns-then-not-fits c =
-    let a = c.args.front.now in
-    let b = c.args.middle.now in
-    let d = c.args.back.now in
-    (refl, inl (refl, λ fits. omega (arith, c.if-not-fits.ensures, length-append (a ++ b) d, length-append a b)))
 
 pub returns : goal.returns
 returns c =

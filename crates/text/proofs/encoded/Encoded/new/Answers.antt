@@ -1,9 +1,6 @@
-use Rattle.std.proofs.Common.{sym, arith}
-use Rattle.text.proofs.Widths.{encode_1, encode_2, encode_3, encode_4}
+use Rattle.std.proofs.Common.{arith}
+use Rattle.text.proofs.Widths.{encode_2, encode_3, encode_4}
 use Rattle.text.proofs.encoded.Encoded.new.Goals as goal
-
-pub returns-in-0-to-127 : goal.returns-in-0-to-127
-returns-in-0-to-127 c = sym (encode_1 c.args.code (omega arith))
 
 pub returns-in-128-to-2047 : goal.returns-in-128-to-2047
 returns-in-128-to-2047 c = cc (encode_2 c.args.code (omega arith) (omega arith))

@@ -1,17 +1,11 @@
-use Rattle.std.proofs.Common.{◌≡◌, ◌<◌, ◌≤◌, false, ◌&&◌, ◌++◌, length, drop, sym, refl, ap, ◌∙◌, inl, arith}
+use Rattle.std.proofs.Common.{◌≡◌, ◌<◌, false, ◌&&◌, ◌++◌, length, drop, sym, refl, ap, ◌∙◌, inl, arith}
 use lib.Utf8.{encode}
-use Rattle.std.proofs.lemmas.List.{nil_from_length, take_rest}
-use Rattle.std.proofs.lemmas.Bool.{eqb-true, eqb-false, and_left, and_right}
+use Rattle.std.proofs.lemmas.List.{take_rest}
+use Rattle.std.proofs.lemmas.Bool.{eqb-false, and_left, and_right}
 use Rattle.text.specs.Utf16.{trailing}
-use Rattle.text.proofs.Decoding.{begins_fits}
 use Rattle.text.proofs.Stepping.{stops, clashes}
 use Rattle.text.proofs.reader.Characters.next.Goals as goal
 use Rattle.text.proofs.reader.Characters.next.Goals.{else-self-via-then-self+else-is_trailing, else-self-via-else-self}
-
-pub returns-then-is_empty : goal.returns-then-is_empty
-returns-then-is_empty c =
-    let none = nil_from_length c.args.self.now.rest.now (eqb-true _ 0 (sym c.if-is_empty.ensures)) in
-    (none, none, refl)
 
 pub returns-in_default : goal.returns-in_default
 returns-in_default c =
@@ -28,18 +22,6 @@ returns-then-is_trailing c =
       refl,
       refl,
     )
-
--- The character's bytes are a front of what is left.
-fits : (c : goal.After-self-1) → length c.in-Some.c.bytes.now ≤ length c.args.self.now.rest.now
-fits c =
-    let h = c.in-Some.ensures in
-    omega (arith, ap length h.1, begins_fits c.args.self.now.rest.now c.in-Some.c.code h.2)
-
-pub slice_bounds-self-count : goal.slice_bounds-self-count
-slice_bounds-self-count c = fits c
-
-pub slice_bounds-self-start : goal.slice_bounds-self-start
-slice_bounds-self-start c = fits c
 
 pub returns : goal.returns
 returns c =
