@@ -1,5 +1,6 @@
 pub mod Calls
 pub mod Character
+pub mod Encoded
 pub mod Join
 pub mod Laws
 pub mod Points

@@ -1,10 +1,13 @@
-ghost use Rattle.std.specs.Prelude.{◌≡◌, ◌<◌, ◌≤◌, List, ℕ, take, MatchOption};
+ghost use Rattle.std.specs.Prelude.{◌≡◌, ℕ, ◌-◌, ◌<◌, ◌≤◌, List, ◌++◌, length, take, replicate, MatchOption};
+ghost use Rattle.std.proofs.Common.{ap, sym, ◌∙◌};
+ghost use Rattle.std.proofs.lemmas.List.{length-take-le};
 ghost use Rattle.std.proofs.Math.Utf8.{encode, next};
+ghost use Rattle.text.specs.Encoded.{IsFilled};
 
 use std::marker::Model;
 
-// The bytes of one character, the first `len` of four. Clauses see the list of them.
-#[derive(Drop)]
+// The bytes of one character, the first `len` of four, and zeros behind them. Clauses see the list of the first.
+#[derive(Clone, Copy)]
 pub struct Encoded {
     bytes: [u8; 4],
     len: usize,
@@ -15,7 +18,13 @@ impl Model for Encoded {
 
     ghost view = { λ e. take e.len e.bytes };
 
-    ghost invariant = { λ e. e.len ≤ 4 };
+    ghost invariant = { λ e. IsFilled e.bytes e.len };
+
+    ghost inverse = { λ bytes. record { bytes = bytes ++ replicate (4 - length bytes) 0; len = length bytes } };
+
+    ghost inverse_ok = { λ e kept.
+        ap (λ n. record { bytes = take e.len e.bytes ++ replicate (4 - n) 0; len = n }) (length-take-le e.len e.bytes kept.within)
+        ∙ ap (λ bytes. record { bytes = bytes; len = e.len }) (sym kept.zeros_behind) };
 }
 
 impl Encoded {
