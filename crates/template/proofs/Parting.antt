@@ -1,5 +1,5 @@
 -- The part at the front of raw text.
-use Rattle.std.proofs.Common.{◌≡◌, ℕ, ◌-◌, ◌<◌, true, false, eqb, List, [], ◌∷◌, ◌++◌, length, get_or, take, drop, Some, None, sym, refl, ap, ◌∙◌, subst, arith, lit<}
+use Rattle.std.proofs.Common.{◌≡◌, ℕ, true, false, eqb, List, [], ◌∷◌, ◌++◌, length, get_or, drop, Some, None, sym, refl, ap, ◌∙◌, subst, arith, lit<}
 use lib.Utf8.{scalar, encode, encodes, low_scalar}
 use Rattle.std.proofs.lemmas.Bool.{cond-true, ne_eqb, eqb-true}
 use Rattle.std.proofs.lemmas.Bool.Decides.{nat_tests}
@@ -9,7 +9,7 @@ use Rattle.template.specs.Grammar.{TemplateCharacter, dollar, escape, continuati
 use Rattle.template.specs.Raw.{part_bytes, Holds, Reads}
 use Rattle.template.specs.Fronts.{Unreadable, Frontless, Fronts, EndsLine, PlainAt, Parts}
 use Rattle.template.specs.declared.raw.RawPart.{RawPart}
-use Rattle.template.proofs.Fronting.{frontless, first_rest}
+use Rattle.template.proofs.Fronting.{frontless, unparted}
 use Rattle.template.proofs.Backslashes.{slash}
 
 -- Template characters that may stand before the rest make a part.
@@ -25,8 +25,8 @@ parted_one part raw rest t h f b =
     parted part raw rest (t ∷ []) h (f.0 ∙ ap (λ cs. encodes cs ++ rest) (sym (append-nil (source t)))) (f.1, tt) (f.2, tt) b
 
 -- A backslash and a character.
-pub slash_split : (raw rest : List ℕ) (c : ℕ) → 0 < length raw → get_or raw 0 0 ≡ 0x5C → take (length raw - 1) (drop 1 raw) ≡ encode c ++ rest → raw ≡ 0x5C ∷ (encode c ++ rest)
-slash_split raw rest c l h e = first_rest raw 0x5C l h ∙ ap (λ xs. 0x5C ∷ xs) e
+pub slash_split : (raw after rest : List ℕ) (c : ℕ) → raw ≡ 0x5C ∷ after → after ≡ encode c ++ rest → raw ≡ 0x5C ∷ (encode c ++ rest)
+slash_split raw after rest c h e = h ∙ ap (λ xs. 0x5C ∷ xs) e
 
 -- A line end behind a backslash is a line continuation.
 pub line_front : (raw rest more : List ℕ) (c : ℕ) → raw ≡ 0x5C ∷ (encode c ++ rest) → (l : EndsLine c rest more) → Fronts raw (continuation l.0) more
@@ -82,6 +82,10 @@ slash_unread after bad (other c) rest a e =
     let same = char_from_byte (0x5C ∷ after) rest c (sym e ∙ ap (λ xs. xs ++ rest) (append-nil (encode c))) (lit< tt) (omega arith) in
     let no = a.1 in
     grind (arith, nat_tests)
+
+-- Where nothing stands at a backslash, there is no part.
+pub slash_none : (raw after : List ℕ) → raw ≡ 0x5C ∷ after → Frontless (0x5C ∷ after) → Parts raw None
+slash_none raw after e bad = unparted raw (omega (arith, ap length e)) (subst Frontless (sym e) bad)
 
 -- A backtick begins nothing.
 pub tick_frontless : (bytes rest : List ℕ) → bytes ≡ encode 0x60 ++ rest → Frontless bytes

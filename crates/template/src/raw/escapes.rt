@@ -23,9 +23,7 @@ fn hex_number(digits: &[u8]) -> Option<u32>
 {
     let mut number = 0;
     for d in digits {
-        let Some(value) = (*d as char).to_digit(16) else {
-            return None;
-        };
+        let value = (*d as char).to_digit(16)?;
         number = (number * 16 + value).min(TOO_LARGE);
     }
     Some(number)
@@ -35,12 +33,8 @@ fn hex_number(digits: &[u8]) -> Option<u32>
 fn leading_digits(bytes: &[u8], count: usize) -> Option<EscapeCode<'_>>
     ensures { Digits count bytes.now result }
 {
-    let Some((digits, rest)) = bytes.split_at_checked(count) else {
-        return None;
-    };
-    let Some(code) = hex_number(digits) else {
-        return None;
-    };
+    let (digits, rest) = bytes.split_at_checked(count)?;
+    let code = hex_number(digits)?;
     Some(EscapeCode { code, rest })
 }
 
@@ -51,28 +45,19 @@ fn hex_escape(after: &[u8]) -> Option<EscapeCode<'_>>
     leading_digits(after, 2)
 }
 
-// The index of the first byte that equals b.
-fn find(bytes: &[u8], b: u8) -> Option<usize>
-    ensures { MatchOption result ((k : ℕ) → k < length bytes.now → slice_index bytes.now k ≢ b) (λ i. (i < length bytes.now) × (slice_index bytes.now i ≡ b) × ((k : ℕ) → k < i → slice_index bytes.now k ≢ b)) }
+// The index of the first closing brace.
+fn closing_brace(bytes: &[u8]) -> Option<usize>
+    ensures { MatchOption result ((k : ℕ) → k < length bytes.now → slice_index bytes.now k ≢ 0x7D) (λ i. (i < length bytes.now) × (slice_index bytes.now i ≡ 0x7D) × ((k : ℕ) → k < i → slice_index bytes.now k ≢ 0x7D)) }
 {
-    for (i, x) in bytes.iter().enumerate() {
-        if *x == b {
-            return Some(i);
-        }
-    }
-    None
+    bytes.iter().position(|byte| *byte == b'}')
 }
 
 // \u{H..}, from behind the opening brace.
 fn braced_escape(after: &[u8]) -> Option<EscapeCode<'_>>
     ensures { EscapesTo (0x5C ∷ 0x75 ∷ 0x7B ∷ after.now) result }
 {
-    let Some(end) = find(after, b'}') else {
-        return None;
-    };
-    let Some(code) = hex_number(&after[0..end]) else {
-        return None;
-    };
+    let end = closing_brace(after)?;
+    let code = hex_number(&after[..end])?;
     if end == 0 || code >= TOO_LARGE {
         return None;
     }
@@ -151,19 +136,15 @@ fn past_line_end(c: char, rest: &[u8]) -> Option<&[u8]>
     }
 }
 
-// The part that begins with a backslash.
-pub(crate) fn backslash(raw: &[u8]) -> Option<RawPart<'_>>
-    requires { (0 < length raw.now) × (slice_index raw.now 0 ≡ 0x5C) }
+// The part that begins with a backslash, before `after`.
+pub(crate) fn backslash<'a>(raw: &'a [u8], after: &'a [u8]) -> Option<RawPart<'a>>
+    requires { raw.now ≡ 0x5C ∷ after.now }
     ensures { Parts raw.now result }
 {
-    let Some((c, rest)) = split_char(&raw[1..]) else {
-        return None;
-    };
+    let (c, rest) = split_char(after)?;
     if let Some(more) = past_line_end(c, rest) {
         return Some(RawPart::Continuation(before(raw, more)));
     }
-    let Some(found) = escape(c, rest) else {
-        return None;
-    };
+    let found = escape(c, rest)?;
     Some(RawPart::Escaped(before(raw, found.rest), found.code))
 }

@@ -7,12 +7,10 @@ use super::front::{before, split_char};
 
 // What follows the character at the front of the bytes, if it may stand in a run: no ` and no $ before {.
 fn past_plain(bytes: &[u8]) -> Option<&[u8]>
-    requires { (0 < length bytes.now) × (slice_index bytes.now 0 ≢ 0x5C) }
+    requires { slice_index bytes.now 0 ≢ 0x5C }
     ensures { MatchOption result (Frontless bytes.now) (λ rest. PlainAt bytes.now rest.now) }
 {
-    let Some((c, rest)) = split_char(bytes) else {
-        return None;
-    };
+    let (c, rest) = split_char(bytes)?;
     match c {
         '`' => None,
         '$' => match rest {
@@ -29,11 +27,8 @@ pub(crate) fn plain(raw: &[u8]) -> Option<RawPart<'_>>
     ensures { Parts raw.now result }
 {
     let mut rest = raw;
-    while !rest.is_empty() && rest[0] != b'\\' {
-        let Some(more) = past_plain(rest) else {
-            return None;
-        };
-        rest = more;
+    while !matches!(rest, [] | [b'\\', ..]) {
+        rest = past_plain(rest)?;
     }
     Some(RawPart::Plain(before(raw, rest)))
 }

@@ -4,17 +4,19 @@ use Rattle.std.proofs.lemmas.List.{take_rest}
 use Rattle.std.proofs.lemmas.Str.{encode_same}
 use Rattle.template.proofs.raw.front.split_char.Goals as goal
 
-pub returns-in_default-from_u32 : goal.returns-in_default-from_u32
-returns-in_default-from_u32 c x rest s e =
-    let code = c.in-Some.first.code in
-    let same = encode_same x code rest (drop (length (encode code)) c.args.bytes.now) (sym e ∙ c.in-Some.ensures.2) in
-    c.in_default-from_u32.ensures.value (subst (λ y. scalar y ≡ true) same.0 s)
+pub returns-in_err-c : goal.returns-in_err-c
+returns-in_err-c c =
+    rw c.from_residual-in_err-c.ensures
+    (λ x rest s e.
+    let code = c.in_ok-first.first.code in
+    let same = encode_same x code rest (drop (length (encode code)) c.args.bytes.now) (sym e ∙ c.in_ok-first.ensures.2) in
+    c.in_err-c.ensures.value (subst (λ y. scalar y ≡ true) same.0 s))
 
 -- The character's bytes are a front of the bytes.
-fits : (c : goal.In-Some-from_u32) → length c.in-Some.first.bytes.now ≤ length c.args.bytes.now
+fits : (c : goal.In_ok-c) → length c.in_ok-first.first.bytes.now ≤ length c.args.bytes.now
 fits c =
-    let h = c.in-Some.ensures in
-    let own = encode c.in-Some.first.code in
+    let h = c.in_ok-first.ensures in
+    let own = encode c.in_ok-first.first.code in
     omega (arith, ap length h.1, ap length h.2, length-append own (drop (length own) c.args.bytes.now))
 
 pub slice_bounds-result-count : goal.slice_bounds-result-count
@@ -26,10 +28,10 @@ slice_bounds-result-start c = fits c
 pub returns : goal.returns
 returns c =
     let bytes = c.args.bytes.now in
-    let code = c.in-Some.first.code in
-    let h = c.in-Some.ensures in
-    let char = c.in-Some-from_u32.ensures.value in
-    let n = length c.in-Some.first.bytes.now in
+    let code = c.in_ok-first.first.code in
+    let h = c.in_ok-first.ensures in
+    let char = c.in_ok-c.ensures.value in
+    let n = length c.in_ok-first.first.bytes.now in
     let rest = take (length bytes - n) (drop n bytes) in
     let split : bytes ≡ encode code ++ rest = h.2 ∙ ap (λ xs. encode code ++ drop (length xs) bytes) (sym h.1) ∙ ap (λ xs. encode code ++ xs) (sym (take_rest bytes n)) in
     (subst (λ y. scalar y ≡ true) (sym char.1) char.0, split ∙ ap (λ y. encode y ++ rest) (sym char.1))
