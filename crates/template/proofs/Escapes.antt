@@ -1,15 +1,14 @@
 -- Escaping one character: its escape, and the escape in bytes.
-use Rattle.std.proofs.Common.{◌≡◌, ℕ, ◌+◌, ◌*◌, ◌/◌, ◌%◌, ◌<◌, ◌≤◌, true, false, cond, ◌||◌, eqb, ltb, ◌⊎◌, List, [], ◌∷◌, ◌++◌, length, sym, refl, ap, ◌∙◌, subst, inl, inr, ⊎_elim, arith, lit<}
+use Rattle.std.proofs.Common.{◌≡◌, ℕ, ◌+◌, ◌/◌, ◌%◌, ◌<◌, ◌≤◌, true, false, cond, ◌||◌, eqb, ltb, ◌⊎◌, [], ◌∷◌, ◌++◌, length, sym, refl, ap, ◌∙◌, subst, inl, inr, ⊎_elim, arith, lit<}
 use lib.Utf8.{encode, encodes}
 use Rattle.std.specs.Char.{digit_char}
 use Rattle.std.specs.Int.{IsInRange}
 use Rattle.std.proofs.lemmas.List.{append-nil}
-use Rattle.std.proofs.lemmas.Bool.{cond-true, cond-false, cases_Bool, cases_eq, cases_lt, eqb-true, ne_eqb, or_from, or_left, or_right, lt-ltb, le-ltb, cond_both}
+use Rattle.std.proofs.lemmas.Bool.{cond-true, cond-false, cases_Bool, cases_eq, cases_lt, eqb-true, ne_eqb, or_from, or_left, or_right, cond_both}
 use Rattle.std.proofs.lemmas.Str.{encode_ascii, encodes-append, length-encode, len_utf8_bounds}
 use Rattle.text.specs.Utf16.{leading, trailing}
 use Rattle.text.proofs.Pairing.{is_leading, is_trailing, not_leading_below, not_leading_above, not_trailing_below, not_trailing_above}
 use Rattle.template.specs.Escaped.{four_digits, escaped}
-use Rattle.template.specs.Tally.{Put}
 
 -- ---- one character
 
@@ -130,27 +129,6 @@ surrogate_bytes c l h =
 itself_bytes : (c : ℕ) → Itself c → encodes (escaped c) ≡ encode c
 itself_bytes c p = ap encodes (itself_escaped c p) ∙ append-nil (encode c)
 
--- A code point has a byte, and a surrogate three.
+-- A code point has a byte.
 pub some_byte : (c : ℕ) → 1 ≤ length (encode c)
 some_byte c = omega (arith, length-encode c, len_utf8_bounds c)
-
-pub three_bytes : (c : ℕ) → 0xD800 ≤ c → c < 0xE000 → length (encode c) ≡ 3
-three_bytes c l h =
-    length-encode c
-    ∙ cond-false (ltb c 128) _ _ (le-ltb c 128 (omega arith))
-    ∙ cond-false (ltb c 2048) _ _ (le-ltb c 2048 (omega arith))
-    ∙ cond-true (ltb c 65536) _ _ (lt-ltb c 65536 (omega arith))
-
--- Escaping at most doubles the length.
-pub escaped_length : (c : ℕ) → length (encodes (escaped c)) ≤ 2 * length (encode c)
-escaped_length c = go (form_of c)
-  where
-    go : Form c → length (encodes (escaped c)) ≤ 2 * length (encode c)
-    go (marked m e) = omega (arith, ap length (mark_bytes c m), some_byte c)
-    go (return r e) = omega (arith, ap length (cr_bytes c r), some_byte c)
-    go (lone l h e) = omega (arith, ap length (surrogate_bytes c l h), three_bytes c l h)
-    go (itself p e) = omega (arith, ap length (itself_bytes c p))
-
--- Bytes that are the escape of a code point may go in its place.
-pub put_escaped : (old : List ℕ) (at : ℕ) (more new : List ℕ) (r c : ℕ) → encodes (escaped c) ≡ more → Put old at more new r → Put old at (encodes (escaped c)) new r
-put_escaped old at more new r c e put = subst (λ bs. Put old at bs new r) (sym e) put

@@ -1,19 +1,15 @@
 -- The template value of a plain run.
-use Rattle.std.proofs.Common.{◌≡◌, ℕ, ◌<◌, ◌≤◌, Bool, true, false, ◌&&◌, ◌||◌, eqb, List, [], ◌∷◌, ◌++◌, length, None, sym, refl, ap, ◌∙◌, subst, ⊎_elim, arith, length-append}
+use Rattle.std.proofs.Common.{◌≡◌, ℕ, ◌<◌, ◌≤◌, Bool, true, false, ◌&&◌, ◌||◌, eqb, List, [], ◌∷◌, ◌++◌, length, sym, refl, ap, ◌∙◌, ⊎_elim, arith}
 use lib.Utf8.{scalar, scalars, encodes, scalar_cases}
 use Rattle.std.proofs.lemmas.List.{append-nil}
 use Rattle.std.proofs.lemmas.Bool.{and_from, and_parts, and_right, or_parts, cond-false, cond_both}
-use Rattle.std.proofs.lemmas.Str.{encodes-append}
 use Rattle.text.specs.Utf16.{leading, trailing, utf16, units}
 use Rattle.text.specs.Points.{Canonical, ends}
-use Rattle.text.proofs.Pairing.{canonical_append, not_leading_below, not_leading_above, not_trailing_below, not_trailing_above, units_append}
+use Rattle.text.proofs.Pairing.{not_leading_below, not_leading_above, not_trailing_below, not_trailing_above}
 use Rattle.template.specs.Grammar.{TemplateCharacter, dollar, escape, continuation, line_end, other, lf, cr, ls, ps, crlf, starts, sources, values, AllAllowed, is_line_terminator}
 use Rattle.template.specs.Lines.{normal}
 use Rattle.template.specs.Cooked.{Spells}
 use Rattle.template.specs.Raw.{Unescaped}
-use Rattle.template.specs.Building.{Adds}
-use Rattle.template.specs.Tally.{Filled, Grows}
-use Rattle.template.specs.declared.cooked.Cooked.{Cooked}
 use Rattle.template.proofs.Runs.{normal_after, normal_encodes}
 
 -- ---- scalars are no surrogates
@@ -53,16 +49,7 @@ normal_scalars b (c ∷ cs) e =
     (λ _. normal_scalars false cs p.1)
     (λ _. and_from (scalar c) (scalars (normal false cs)) p.0 (normal_scalars false cs p.1)))
 
--- No line end becomes longer, and a run does not vanish.
-pub normal_short : (b : Bool) (cs : List ℕ) → length (normal b cs) ≤ length cs
-normal_short b [] = omega arith
-normal_short b (c ∷ cs) =
-    let t = normal_short true cs in
-    let f = normal_short false cs in
-    cond_both (eqb c 0x0D) _ _ (λ l. length l ≤ length (c ∷ cs))
-    (λ _. omega arith)
-    (λ _. cond_both (b && eqb c 0x0A) _ _ (λ l. length l ≤ length (c ∷ cs)) (λ _. omega arith) (λ _. omega arith))
-
+-- A run does not vanish.
 normal_some : (cs : List ℕ) → 0 < length cs → 0 < length (normal false cs)
 normal_some [] h = h
 normal_some (c ∷ cs) h = cond_both (eqb c 0x0D) _ _ (λ l. 0 < length l) (λ _. omega arith) (λ _. omega arith)
@@ -122,19 +109,3 @@ plain_points run ts u some s = (
   ap (normal false) (sym s.1) ∙ normal_encodes false (sources ts),
   unescaped_values ts u s.0,
 )
-
--- A plain run, written with LF for each line end, adds its template value.
-pub adds_plain : (old new run : List ℕ) (done : Cooked) (ts : List TemplateCharacter) (r : ℕ) → Unescaped ts → 0 < length ts → Spells run ts → Grows old done.len (normal false run) new r → Adds old new done (record { len = r; lead = None }) (values ts)
-adds_plain old new run done ts r u some s g first us b =
-    let cs = b.0 in
-    let p = plain_points run ts u some s in
-    let ds = p.0 in
-    let whole : encodes (cs ++ ds) ≡ encodes cs ++ normal false run = encodes-append cs ds ∙ ap (λ l. encodes cs ++ l) (sym p.3) in (
-      cs ++ ds,
-      canonical_append false cs ds b.1 (scalars_canonical (ends false cs) ds p.1),
-      units_append cs ds ∙ ap (λ l. l ++ units ds) b.2 ∙ ap (λ l. us ++ l) (sym p.4),
-      omega (arith, g.0, b.3, ap length whole, length-append (encodes cs) (normal false run)),
-      subst (Filled first new) (sym whole) (g.2 first (encodes cs) (sym b.3) b.6 b.4),
-      ends_append false cs ds ∙ scalars_end (ends false cs) ds p.1 p.2,
-      g.1 ∙ b.6,
-    )

@@ -1,4 +1,3 @@
-pub mod Building
 pub mod Calls
 pub mod Comparing
 pub mod Cooked
@@ -8,5 +7,6 @@ pub mod Fronts
 pub mod Grammar
 pub mod Laws
 pub mod Lines
+pub mod Output
 pub mod Raw
-pub mod Tally
+pub mod Sinks

@@ -1,13 +1,14 @@
 // Escaping: a text as raw template text.
-ghost use Rattle.std.specs.Prelude.{◌≡◌, ◌+◌, ◌*◌, ◌^◌, ◌<◌, ◌≤◌, ◌∷◌, length};
+ghost use Rattle.std.specs.Prelude.{◌≡◌, ◌<◌, ◌≤◌, ◌∷◌};
 ghost use Rattle.std.proofs.Math.Utf8.{encode, encodes};
 ghost use Rattle.std.specs.Char.{digit_char};
-ghost use Rattle.template.specs.Calls.{Escapes, Walks};
+ghost use Rattle.template.specs.Calls.{Escapes};
 ghost use Rattle.template.specs.Escaped.{escaped, four_digits, raw_of};
+ghost use Rattle.template.specs.Sinks.{Adds};
 ghost use Rattle.text.specs.Stored.{Stores};
-ghost use Rattle.template.specs.Tally.{Put};
 
-use super::tally::put;
+use super::sink::Sink;
+use super::walk::{Walk, write_whole};
 use base::Fault;
 use text::{Character, Characters};
 
@@ -37,40 +38,43 @@ fn surrogate_escape(code: u32) -> [u8; 6]
     ]
 }
 
-// Writes one character, escaped, at `at` if it has room, and answers where it ends.
-fn escape_character(c: Character<'_>, out: &mut [u8], at: usize) -> usize
+// Hands on one character, escaped.
+fn escape_character<S: Sink>(sink: &mut S, c: Character<'_>)
     requires code { c.code ≤ 0x10FFFF }
     requires bytes { c.bytes.now ≡ encode c.code }
-    requires room { at + 2 * length c.bytes.now < 2 ^ 64 }
-    ensures { Put out.old at (encodes (escaped c.entry.code)) out.new result }
+    ensures { Adds S.Took sink.old (encodes (escaped c.entry.code)) sink.new }
 {
     match char::from_u32(c.code) {
-        Some(mark @ ('\\' | '`' | '$')) => put(out, at, &[b'\\', mark as u8]),
-        Some('\r') => put(out, at, b"\\r"),
-        Some(_) => put(out, at, c.bytes),
-        None => put(out, at, &surrogate_escape(c.code)),
+        Some(mark @ ('\\' | '`' | '$')) => sink.take(&[b'\\', mark as u8]),
+        Some('\r') => sink.take(b"\\r"),
+        Some(_) => sink.take(c.bytes),
+        None => sink.take(&surrogate_escape(c.code)),
     }
 }
 
-// Writes the raw text of `text` if it has room, and answers how long it is in any case.
-fn escape_onto(text: &[u8], out: &mut [u8]) -> Result<usize, Fault>
-    ensures { Walks (Stores text.now) raw_of out.old out.new result }
-{
-    let mut characters = Characters::new(text);
-    let mut len = 0;
-    while let Some(c) = characters.next()? {
-        len = escape_character(c, out, len);
+// A stored text, which is handed on escaped.
+#[derive(Clone, Copy)]
+struct StoredText<'a> {
+    text: &'a [u8],
+}
+
+impl Walk for StoredText<'_> {
+    ghost Means = { λ w. Stores w.text.now };
+
+    ghost form = { raw_of };
+
+    fn walk<S: Sink>(&self, sink: &mut S) -> Result<(), Fault> {
+        let mut characters = Characters::new(self.text);
+        while let Some(c) = characters.next()? {
+            escape_character(sink, c);
+        }
+        Ok(())
     }
-    Ok(len)
 }
 
 // Writes the raw text of a stored text into `out`, and answers how long it is.
 pub fn escape(text: &[u8], out: &mut [u8]) -> Result<usize, Fault>
     ensures { Escapes text.now out.old out.new result }
 {
-    let need = escape_onto(text, &mut [])?;
-    if need > out.len() {
-        return Err(Fault::Overfull);
-    }
-    escape_onto(text, out)
+    write_whole(&StoredText { text }, out)
 }

@@ -3,12 +3,13 @@
 #![tactic(auto)]
 
 mod comparing;
-mod cooked;
 mod cooking;
 mod escaping;
 mod laws;
+mod output;
 mod raw;
-mod tally;
+mod sink;
+mod walk;
 
 pub use comparing::cooks_to;
 pub use cooking::cook;

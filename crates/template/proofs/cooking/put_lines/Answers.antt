@@ -1,30 +1,33 @@
-use Rattle.std.proofs.Common.{[], ◌∷◌}
-use Rattle.template.proofs.LineEnds.{put_as, lined_put, lined_skip, lined_all}
+use Rattle.std.proofs.Common.{refl, ◌∷◌, [], sym, subst, eqb, get_or, ◌+◌}
+use Rattle.template.specs.Sinks.{Adds}
+use Rattle.template.proofs.Adding.{adds_nothing}
+use Rattle.template.proofs.LineEnds.{Lined, lined_put, lined_skip, lined_all}
 use Rattle.template.proofs.cooking.put_lines.Goals as goal
 use Rattle.template.proofs.cooking.put_lines.Goals.{in-Some, in_default}
 
+pub loop-byte-init : goal.loop-byte-init
+loop-byte-init g c = ([], adds_nothing g.S.Sink.Took c.args.sink.now, refl)
+
 pub loop-byte-preserved : goal.loop-byte-preserved
-loop-byte-preserved c =
-    let old = c.args.out.now in
+loop-byte-preserved g c =
+    let took = g.S.Sink.Took in
+    let start = c.args.sink.now in
     let run = c.args.run.now in
-    let at = c.args.at in
-    let out = c.loop-byte.out in
-    let len = c.loop-byte.len in
+    let now = c.loop-byte.sink in
     let cr = c.loop-byte.after_cr in
     let k = c.loop-byte.byte-index in
     let low = c.loop-byte-test.true in
     let inv = c.loop-byte.invariant in
-    let new = c.match-line_byte.out in
-    let end = c.match-line_byte.len in
     elim c.match-line_byte.branch [
       | in-Some w ↦
           let x = w.in-Some.value in
-          lined_put old run at out len cr k low inv new end x w.in-Some.ensures c.match-line_byte.auto.out
-          (put_as out new w.put-len.new.out (x ∷ []) len end w.put-len.result w.out-is w.len-is w.put-len.ensures)
-      | in_default w ↦ lined_skip old run at out len cr k low inv new end w.in_default.ensures w.out-is w.len-is
+          lined_put took start now c.match-line_byte.sink run cr k x low inv w.in-Some.ensures
+          (subst (Adds took now (x ∷ [])) (sym w.sink-is) w.take.ensures)
+      | in_default w ↦
+          subst (λ s. Lined took start s run (eqb (get_or run k 0) 13) (k + 1)) (sym w.sink-is) (lined_skip took start now run cr k low inv w.in_default.ensures)
     ]
 
 pub returns : goal.returns
-returns c =
-    lined_all c.args.out.now c.args.run.now c.args.at c.loop-byte.out c.loop-byte.len c.loop-byte.after_cr c.loop-byte.byte-index
+returns g c =
+    lined_all g.S.Sink.Took c.args.sink.now c.loop-byte.sink c.args.run.now c.loop-byte.after_cr c.loop-byte.byte-index
     c.loop-byte-test.false c.loop-byte.invariant
