@@ -1,7 +1,7 @@
 -- Plain runs, character by character.
 use Rattle.std.proofs.Common.{◌≡◌, ℕ, ◌<◌, true, false, eqb, ◌⊎◌, List, [], ◌∷◌, ◌++◌, length, get_or, sym, refl, ap, ◌∙◌, subst, inl, inr, arith}
 use lib.Utf8.{scalar, encode, encodes}
-use Rattle.std.proofs.lemmas.Bool.{cond_both, eqb-true}
+use Rattle.std.proofs.lemmas.Bool.{cond_both, eqb-true, eq-eqb}
 use Rattle.std.proofs.lemmas.List.{append-nil, append_assoc}
 use Rattle.std.proofs.lemmas.Str.{encodes-append}
 use Rattle.template.specs.Grammar.{TemplateCharacter, dollar, escape, continuation, line_end, other, lf, cr, ls, ps, crlf, sources, AllAllowed, starts}
@@ -85,6 +85,10 @@ run_bytes raw rest r = r.1 ∙ ap (λ cs. encodes cs ++ rest) (sym (run_source r
 -- The end of a run: nothing, or a backslash.
 abbrev pub Ends : List ℕ → Type 0
 Ends rest = (rest ≡ []) ⊎ (starts (λ b. eqb b 0x5C) rest ≡ true)
+
+pub ends_at : (rest : List ℕ) → (0 < length rest → get_or rest 0 0 ≡ 0x5C) → Ends rest
+ends_at [] h = inl refl
+ends_at (b ∷ rest) h = inr (eq-eqb b 0x5C (h (omega arith)))
 
 ends_feed : (rest : List ℕ) → Ends rest → starts (λ b. eqb b 0x0A) rest ≡ false
 ends_feed [] e = refl

@@ -18,10 +18,7 @@ impl Compared<'_> {
     fn is_passed(self) -> bool
         ensures { MatchBool result (IsPassed self.entry.rest) (IsPassed self.entry.rest → ⊥) }
     {
-        match self.rest {
-            Some(rest) => rest.is_empty(),
-            None => false,
-        }
+        matches!(self.rest, Some([]))
     }
 }
 

@@ -17,10 +17,7 @@ fn hex_digit(value: u32) -> u8
     requires { value < 16 }
     ensures { result ≡ digit_char value }
 {
-    match value {
-        0..=9 => b'0' + value as u8,
-        _ => b'a' + (value - 10) as u8,
-    }
+    char::from_digit(value, 16).unwrap() as u8
 }
 
 // The escape \u with four digits, which spells any surrogate.

@@ -107,7 +107,7 @@ fn simple_escape(c: char) -> char
 
 // The escape that begins with c, which is no line terminator, and goes on with `rest`.
 fn escape(c: char, rest: &[u8]) -> Option<EscapeCode<'_>>
-    requires { (is_line_terminator c ≡ false) × (scalar c ≡ true) }
+    requires { is_line_terminator c ≡ false }
     ensures { EscapesTo (0x5C ∷ (encode c ++ rest.now)) result }
 {
     match c {

@@ -30,4 +30,4 @@ returns-in_default c =
       | in_default-via-else-c-lt48+else-c-lt58 w ↦ omega (arith, ltb-true, ltb-false)
     ])
     in
-    subst (λ code. StandsFor (0x5C ∷ (encode x ++ rest)) code rest) (sym c.simple_escape.ensures) (simple_found x rest c.requires.1 c.requires.0 digit (λ e. search rules) (λ e. search rules))
+    subst (λ code. StandsFor (0x5C ∷ (encode x ++ rest)) code rest) (sym c.simple_escape.ensures) (simple_found x rest c.ranges.c.0 c.requires digit (λ e. search rules) (λ e. search rules))

@@ -1,27 +1,20 @@
-use Rattle.std.proofs.Common.{◌≡◌, ◌<◌, ◌≢◌, length, get_or, ap, inl, inr, arith, length-append, rules, eqb}
+use Rattle.std.proofs.Common.{◌≡◌, ◌<◌, ◌≢◌, length, get_or, ap, arith, length-append}
 use lib.Utf8.{encode}
-use Rattle.std.proofs.lemmas.Bool.{eq-eqb}
-use Rattle.std.proofs.lemmas.List.{nil_from_length}
 use Rattle.std.proofs.lemmas.Str.{length-encode, len_utf8_bounds}
 use Rattle.template.specs.declared.raw.RawPart.TheVariants.{Plain}
-use Rattle.template.proofs.Fronting.{starts_true}
 use Rattle.template.proofs.Parting.{parted}
-use Rattle.template.proofs.PlainRuns.{Ends, run_none, run_more, run_found}
+use Rattle.template.proofs.PlainRuns.{ends_at, run_none, run_more, run_found}
 use Rattle.template.proofs.LostRuns.{run_lost}
 use Rattle.template.proofs.raw.plain.plain.Goals as goal
-use Rattle.template.proofs.raw.plain.plain.Goals.{in_default, in-empty, in-empty-2}
 
 pub loop-rest-init : goal.loop-rest-init
 loop-rest-init c = run_none c.args.raw.now
 
-pub past_plain-requires : goal.past_plain-requires
-past_plain-requires c = elim c.if-matches.branch [ in_default w ↦ search rules | in-empty w ↦ absurd cc | in-empty-2 w ↦ absurd cc ]
-
 pub returns-in_err-rest : goal.returns-in_err-rest
 returns-in_err-rest c =
     let rest = c.loop-rest.rest.now in
-    let some : 0 < length rest = elim c.if-matches.branch [ in_default w ↦ omega arith | in-empty w ↦ absurd cc | in-empty-2 w ↦ absurd cc ] in
-    let other : get_or rest 0 0 ≢ 0x5C = elim c.if-matches.branch [ in_default w ↦ search rules | in-empty w ↦ absurd cc | in-empty-2 w ↦ absurd cc ] in
+    let some : 0 < length rest = grind arith in
+    let other : get_or rest 0 0 ≢ 0x5C = grind arith in
     rw c.from_residual.ensures (run_lost c.args.raw.now rest c.loop-rest.invariant c.requires.1 some other c.in_err-rest.ensures)
 
 pub loop-rest-smaller : goal.loop-rest-smaller
@@ -36,14 +29,6 @@ pub returns : goal.returns
 returns c =
     let raw = c.args.raw.now in
     let rest = c.loop-rest.rest.now in
-    let end : Ends rest =
-    elim c.if-matches.branch [
-      | in_default w ↦ absurd cc
-      | in-empty w ↦ inl (nil_from_length rest (omega arith))
-      | in-empty-2 w ↦
-          let slash : get_or rest 0 0 ≡ 0x5C = search rules in
-          inr (starts_true (λ b. eqb b 0x5C) rest (omega arith) (eq-eqb (get_or rest 0 0) 0x5C slash))
-    ]
-    in
-    let found = run_found raw rest c.loop-rest.invariant end c.requires.0 c.requires.1 in
+    let slash : 0 < length rest → get_or rest 0 0 ≡ 0x5C = λ some. grind arith in
+    let found = run_found raw rest c.loop-rest.invariant (ends_at rest slash) c.requires.0 c.requires.1 in
     parted (Plain c.before-2.result) raw rest found.0 found.1 found.2 found.3 found.4 c.before-2.ensures
