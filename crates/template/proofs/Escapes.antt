@@ -1,11 +1,8 @@
 -- Escaping one character: its escape, and the escape in bytes.
-use Rattle.std.proofs.Common.{◌≡◌, ℕ, ◌+◌, ◌/◌, ◌%◌, ◌<◌, ◌≤◌, true, false, cond, ◌||◌, eqb, ltb, ◌⊎◌, [], ◌∷◌, ◌++◌, length, sym, refl, ap, ◌∙◌, subst, inl, inr, ⊎_elim, arith, lit<}
-use lib.Utf8.{encode, encodes}
-use Rattle.std.specs.Char.{digit_char}
-use Rattle.std.specs.Int.{IsInRange}
-use Rattle.std.proofs.lemmas.List.{append-nil}
-use Rattle.std.proofs.lemmas.Bool.{cond-true, cond-false, cases_Bool, cases_eq, cases_lt, eqb-true, ne_eqb, or_from, or_left, or_right, cond_both}
-use Rattle.std.proofs.lemmas.Str.{encode_ascii, encodes-append, length-encode, len_utf8_bounds}
+use Rattle.std.proofs.Common.{◌≡◌, ℕ, ◌<◌, ◌≤◌, true, false, cond, ◌||◌, eqb, ◌⊎◌, [], ◌∷◌, length, sym, refl, ap, ◌∙◌, subst, inl, inr, ⊎_elim, arith}
+use lib.Utf8.{encode}
+use Rattle.std.proofs.lemmas.Bool.{cond-true, cond-false, cases_Bool, cases_lt, eqb-true, ne_eqb, or_from, or_left, or_right}
+use Rattle.std.proofs.lemmas.Str.{length-encode, len_utf8_bounds}
 use Rattle.text.specs.Utf16.{leading, trailing}
 use Rattle.text.proofs.Pairing.{is_leading, is_trailing, not_leading_below, not_leading_above, not_trailing_below, not_trailing_above}
 use Rattle.template.specs.Escaped.{four_digits, escaped}
@@ -15,12 +12,6 @@ use Rattle.template.specs.Escaped.{four_digits, escaped}
 -- A mark: \ or ` or $.
 abbrev pub Mark : ℕ → Type 0
 Mark c = (c ≡ 0x5C) ⊎ ((c ≡ 0x60) ⊎ (c ≡ 0x24))
-
-pub mark_from : (c : ℕ) → ((c ≡ 0x5C → ⊥) → (c ≡ 0x60 → ⊥) → (c ≡ 0x24 → ⊥) → ⊥) → Mark c
-mark_from c some =
-    ⊎_elim inl
-    (λ a. ⊎_elim (λ e. inr (inl e)) (λ b. ⊎_elim (λ e. inr (inr e)) (λ d. absurd (some a b d)) (cases_eq c 0x24)) (cases_eq c 0x60))
-    (cases_eq c 0x5C)
 
 -- A code point that stands for itself.
 pub record Itself (c : ℕ) : Type 0 where
@@ -59,10 +50,6 @@ itself_escaped c p =
     unmarked c p.no_slash p.no_tick p.no_dollar p.no_cr
     ∙ cond-false (leading c || trailing c) _ _ (no_surrogate_tests c p.no_surrogate)
 
--- A code point that is no character is a surrogate.
-pub lone_range : (c : ℕ) → c ≤ 0x10FFFF → IsInRange 0xD800 0xDFFF c ⊎ (0x110000 ≤ c) → (0xD800 ≤ c) × (c < 0xE000)
-lone_range c h k = (omega arith, omega arith)
-
 -- A code point by its escape.
 pub data Form (c : ℕ) : Type 0 where
   marked : Mark c → escaped c ≡ 0x5C ∷ c ∷ [] → Form c
@@ -99,35 +86,6 @@ form_of c =
         (λ low. own (inl low))
         (λ l. ⊎_elim (λ h. lone l h (surrogate_escaped c l h)) (λ up. own (inr up)) (cases_lt c 0xE000))
         (cases_lt c 0xD800)
-
--- ---- its bytes
-
--- The escapes are ASCII.
-digit_ascii : (d : ℕ) → d < 16 → digit_char d < 128
-digit_ascii d h = cond_both (ltb d 10) (48 + d) (87 + d) (λ x. x < 128) (λ _. omega arith) (λ _. omega arith)
-
-bytes_two : (a b : ℕ) → a < 128 → b < 128 → encodes (a ∷ b ∷ []) ≡ a ∷ b ∷ []
-bytes_two a b h k = rw (encode_ascii a h, encode_ascii b k)
-
-bytes_four : (a b c d : ℕ) → a < 128 → b < 128 → c < 128 → d < 128 → encodes (a ∷ b ∷ c ∷ d ∷ []) ≡ a ∷ b ∷ c ∷ d ∷ []
-bytes_four a b c d h i j k = rw (encode_ascii a h, encode_ascii b i, encode_ascii c j, encode_ascii d k)
-
-pub mark_bytes : (c : ℕ) → Mark c → encodes (escaped c) ≡ 0x5C ∷ c ∷ []
-mark_bytes c m = ap encodes (mark_escaped c m) ∙ bytes_two 0x5C c (lit< tt) (omega arith)
-
-pub cr_bytes : (c : ℕ) → c ≡ 0x0D → encodes (escaped c) ≡ 0x5C ∷ 0x72 ∷ []
-cr_bytes c e = ap encodes (cr_escaped c e) ∙ bytes_two 0x5C 0x72 (lit< tt) (lit< tt)
-
-pub surrogate_bytes : (c : ℕ) → 0xD800 ≤ c → c < 0xE000 → encodes (escaped c) ≡ 0x5C ∷ 0x75 ∷ four_digits c
-surrogate_bytes c l h =
-    ap encodes (surrogate_escaped c l h)
-    ∙ encodes-append (0x5C ∷ 0x75 ∷ []) (four_digits c)
-    ∙ ap (λ bs. bs ++ encodes (four_digits c)) (bytes_two 0x5C 0x75 (lit< tt) (lit< tt))
-    ∙ ap (λ bs. 0x5C ∷ 0x75 ∷ bs) (bytes_four (digit_char (c / 0x1000)) (digit_char (c / 0x100 % 16)) (digit_char (c / 16 % 16)) (digit_char (c % 16))
-    (digit_ascii (c / 0x1000) (omega arith)) (digit_ascii (c / 0x100 % 16) (omega arith)) (digit_ascii (c / 16 % 16) (omega arith)) (digit_ascii (c % 16) (omega arith)))
-
-itself_bytes : (c : ℕ) → Itself c → encodes (escaped c) ≡ encode c
-itself_bytes c p = ap encodes (itself_escaped c p) ∙ append-nil (encode c)
 
 -- A code point has a byte.
 pub some_byte : (c : ℕ) → 1 ≤ length (encode c)

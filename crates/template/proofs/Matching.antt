@@ -107,10 +107,6 @@ run_becomes lead run ts u some s vs =
 
 -- ---- handing on
 
--- The withheld surrogate's bytes.
-pub withheld_one : (h : ℕ) → stored (withheld (Some h)) ≡ encode h
-withheld_one h = append-nil (encode h)
-
 -- Units behind units.
 pub becomes_both : (o p q : Option ℕ) (us vs a b : List ℕ) → Becomes o us a p → Becomes p vs b q → Becomes o (us ++ vs) (a ++ b) q
 becomes_both o p q us vs a b f g ws =

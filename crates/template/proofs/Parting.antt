@@ -64,10 +64,7 @@ no_begin : (bytes cs rest : List ℕ) → Unreadable bytes → Begins cs → enc
 no_begin bytes cs rest bad b e =
     bad b.0 (encodes b.1 ++ rest) b.3 (sym e ∙ ap (λ xs. encodes xs ++ rest) b.2 ∙ append_assoc (encode b.0) (encodes b.1) rest)
 
--- So no template character does, behind a backslash or not.
-pub unread : (bytes : List ℕ) → Unreadable bytes → Frontless bytes
-unread bytes bad t rest a e = no_begin bytes (source t) rest bad (source_begins t rest a) e
-
+-- So no template character does behind a backslash.
 pub slash_unread : (after : List ℕ) → Unreadable after → Frontless (0x5C ∷ after)
 unfolding encode
 slash_unread after bad dollar rest a e = omega (arith, ap (λ xs. get_or xs 0 0) e)

@@ -2,9 +2,8 @@
 use Rattle.std.proofs.Common.{◌≡◌, ℕ, ◌<◌, ◌≤◌, Bool, true, false, ◌&&◌, ◌||◌, eqb, List, [], ◌∷◌, ◌++◌, length, sym, refl, ap, ◌∙◌, ⊎_elim, arith}
 use lib.Utf8.{scalar, scalars, encodes, scalar_cases}
 use Rattle.std.proofs.lemmas.List.{append-nil}
-use Rattle.std.proofs.lemmas.Bool.{and_from, and_parts, and_right, or_parts, cond-false, cond_both}
+use Rattle.std.proofs.lemmas.Bool.{and_from, and_parts, or_parts, cond-false, cond_both}
 use Rattle.text.specs.Utf16.{leading, trailing, utf16, units}
-use Rattle.text.specs.Points.{Canonical, ends}
 use Rattle.text.proofs.Pairing.{not_leading_below, not_leading_above, not_trailing_below, not_trailing_above}
 use Rattle.template.specs.Grammar.{TemplateCharacter, dollar, escape, continuation, line_end, other, lf, cr, ls, ps, crlf, starts, sources, values, AllAllowed, is_line_terminator}
 use Rattle.template.specs.Lines.{normal}
@@ -20,22 +19,6 @@ scalar_quiet c e =
     (λ h. (not_leading_below c h, not_trailing_below c (omega arith), omega arith))
     (λ h. (not_leading_above c (omega arith), not_trailing_above c h.0, omega arith))
     (scalar_cases c e)
-
-scalars_canonical : (led : Bool) (cs : List ℕ) → scalars cs ≡ true → Canonical led cs
-scalars_canonical led [] e = tt
-scalars_canonical led (c ∷ cs) e =
-    let p = and_parts (scalar c) (scalars cs) e in
-    let q = scalar_quiet c p.0 in
-    (q.2, and_right led (trailing c) q.1, scalars_canonical (leading c) cs p.1)
-
-scalars_end : (led : Bool) (cs : List ℕ) → scalars cs ≡ true → 0 < length cs → ends led cs ≡ false
-scalars_end led [] e h = absurd (omega arith)
-scalars_end led (c ∷ []) e h = (scalar_quiet c (and_parts (scalar c) true e).0).0
-scalars_end led (c ∷ d ∷ cs) e h = scalars_end (leading c) (d ∷ cs) (and_parts (scalar c) (scalars (d ∷ cs)) e).1 (omega arith)
-
-ends_append : (led : Bool) (cs ds : List ℕ) → ends led (cs ++ ds) ≡ ends (ends led cs) ds
-ends_append led [] ds = refl
-ends_append led (c ∷ cs) ds = ends_append (leading c) cs ds
 
 -- ---- line ends
 

@@ -12,7 +12,7 @@ use escapes::backslash;
 use plain::plain;
 
 // A part of raw template text.
-#[derive(Clone, Copy)]
+#[derive(Clone, Copy, PartialEq, Eq, Debug)]
 pub enum RawPart<'a> {
     // A longest run without a backslash.
     Plain(&'a [u8]),

@@ -13,10 +13,7 @@ fn past_plain(bytes: &[u8]) -> Option<&[u8]>
     let (c, rest) = split_char(bytes)?;
     match c {
         '`' => None,
-        '$' => match rest {
-            [b'{', ..] => None,
-            _ => Some(rest),
-        },
+        '$' if rest.starts_with(b"{") => None,
         _ => Some(rest),
     }
 }
