@@ -1,24 +1,22 @@
 -- The walk over raw text: what was read and handed on so far.
-use Rattle.std.proofs.Common.{◌≡◌, ℕ, ◌<◌, ◌≤◌, List, [], ◌∷◌, ◌++◌, length, Some, None, Ok, Option, sym, refl, ap, ◌∙◌, subst, inl, inr, append_assoc, arith, length-append, Bor, false}
+use Rattle.std.proofs.Common.{◌≡◌, ℕ, ◌<◌, List, [], ◌∷◌, ◌++◌, length, Some, None, Ok, Option, sym, refl, ap, ◌∙◌, subst, inl, inr, append_assoc, arith, length-append, Bor, false}
 use lib.Utf8.{encodes}
 use Rattle.std.proofs.lemmas.List.{append-nil}
 use Rattle.std.proofs.lemmas.Str.{encodes-append, length-le-encodes}
 use Rattle.base.specs.declared.fault.Fault.{Fault}
 use Rattle.base.specs.Questions.{Refuses}
 use Rattle.text.specs.Stored.{stored}
-use Rattle.text.specs.Utf16.{utf16}
 use Rattle.template.specs.Cooked.{Cooks, WellFormed}
-use Rattle.template.specs.Cooking.{Hands, HandsPart, Stands, withheld}
-use Rattle.template.specs.Grammar.{Escape, TemplateCharacter, escape, escape_code, sources, values, AllAllowed}
+use Rattle.template.specs.Cooking.{Hands, HandsPart, withheld}
+use Rattle.template.specs.Grammar.{TemplateCharacter, sources, values, AllAllowed}
 use Rattle.template.specs.Lines.{normal}
 use Rattle.template.specs.Sinks.{Adds}
 use Rattle.template.specs.Raw.{left_of, part_bytes, Reads, NextPart}
 use Rattle.template.specs.declared.raw.RawPart.{RawPart}
-use Rattle.template.specs.declared.raw.RawPart.TheVariants.{Plain, Escaped, Continuation}
+use Rattle.template.specs.declared.raw.RawPart.TheVariants.{Plain}
 use Rattle.template.specs.declared.raw.RawReader.{RawReader}
-use Rattle.template.proofs.Adding.{adds_nothing, adds_both}
+use Rattle.template.proofs.Adding.{adds_both}
 use Rattle.template.proofs.Alike.{allowed_bytes}
-use Rattle.template.proofs.EscapeValues.{escape_small}
 use Rattle.template.proofs.Matching.{becomes_both, becomes_all, run_becomes}
 use Rattle.template.proofs.Reading.{sources_append, sources_some, values_append, all_allowed_append, malformed_more}
 use Rattle.template.proofs.Fronting.{holds_some, part_source}
@@ -29,25 +27,10 @@ use Rattle.template.proofs.Fronting.{holds_some, part_source}
 pub part_read : (left right : RawReader) (found : Option RawPart) (part : RawPart) → found ≡ Some part → NextPart left right (Ok found) → Reads part (left_of left) (left_of right)
 part_read left right found part e n = subst (λ o. NextPart left right (Ok o)) e n
 
-pub part_stands : (part : RawPart) (left rest : List ℕ) → Reads part left rest → Stands part
-part_stands part left rest r = (rest, r.0, r.1, r.2)
-
 -- A part is not empty.
 pub part_less : (part : RawPart) (left rest : List ℕ) → Reads part left rest → length rest < length left
 part_less part left rest r =
     omega (arith, ap length r.3, length-append (part_bytes part) rest, ap length r.2.1, length-le-encodes (sources r.0), sources_some r.0 (holds_some part rest r.0 r.1))
-
--- The template value of an escape.
-escaped_value : (ts : List TemplateCharacter) (code : ℕ) → ((e : Escape) × (ts ≡ escape e ∷ []) × (escape_code e ≡ code)) → utf16 code ≡ values ts
-escaped_value ts code h = ap utf16 (sym h.2) ∙ sym (append-nil (utf16 (escape_code h.0))) ∙ ap values (sym h.1)
-
--- It stands for a code point.
-pub escaped_small : (part : RawPart) (bytes : Bor (List ℕ)) (code : ℕ) → part ≡ Escaped bytes code → Stands part → code ≤ 0x10FFFF
-escaped_small part bytes code e s =
-    let at : Stands (Escaped bytes code) = subst Stands e s in
-    let x = at.2.0 in
-    let allowed : AllAllowed (escape x ∷ []) [] = subst (λ l. AllAllowed l []) at.2.1 at.3.0 in
-    omega (arith, escape_small x [] allowed.0, at.2.2)
 
 -- ---- the walk
 
@@ -62,25 +45,11 @@ cook_refuse Took start raw rest now lead e w (inl bad) = inl (bad.0, λ c. malfo
 cook_refuse Took start raw rest now lead e w (inr bad) = absurd bad.1
 
 module _ {S : Type 0} (Took : S → List ℕ → S → Type 0) where
-  pub cook_start : (start : S) (raw : List ℕ) → CookWalk Took start raw raw start None
-  cook_start start raw = ([], refl, tt, ([], adds_nothing Took start, λ vs. refl))
-
-  -- A line continuation stands for nothing.
-  pub continuation_part : (s : S) (lead : Option ℕ) (part : RawPart) (bytes : Bor (List ℕ)) → part ≡ Continuation bytes → HandsPart Took s lead part s lead
-  continuation_part s lead part bytes e =
-      subst (λ p. HandsPart Took s lead p s lead) (sym e)
-      (λ rest ts h spells. subst (λ us. Hands Took s lead us s lead) (ap values (sym h.1)) ([], adds_nothing Took s, λ vs. refl))
-
-module _ {S : Type 0} (Took : S → List ℕ → S → Type 0) where
   -- A plain run: the withheld surrogate comes first.
   pub plain_part : (s t u : S) (lead : Option ℕ) (part : RawPart) (run : Bor (List ℕ)) → part ≡ Plain run → Adds Took s (stored (withheld lead)) t → Adds Took t (normal false run.now) u → HandsPart Took s lead part u None
   plain_part s t u lead part run e p q =
       subst (λ x. HandsPart Took s lead x u None) (sym e)
       (λ rest ts h spells. (stored (withheld lead) ++ normal false run.now, adds_both Took s t u (stored (withheld lead)) (normal false run.now) p q, run_becomes lead run.now ts h.0 h.1 spells))
-
-  pub escaped_part : (s t : S) (lead next : Option ℕ) (part : RawPart) (bytes : Bor (List ℕ)) (code : ℕ) → part ≡ Escaped bytes code → Hands Took s lead (utf16 code) t next → HandsPart Took s lead part t next
-  escaped_part s t lead next part bytes code e a =
-      subst (λ x. HandsPart Took s lead x t next) (sym e) (λ rest ts h spells. subst (λ us. Hands Took s lead us t next) (escaped_value ts code h) a)
 
   -- One part more.
   pub cook_step : (start : S) (raw left rest : List ℕ) (now next : S) (lead last : Option ℕ) (part : RawPart) → CookWalk Took start raw left now lead → Reads part left rest → HandsPart Took now lead part next last → CookWalk Took start raw rest next last

@@ -1,8 +1,6 @@
 -- Comparing piece by piece.
-use Rattle.std.proofs.Common.{ℕ, ◌≤◌, Bool, true, false, List, [], ◌∷◌, ◌++◌, Some, None, MatchBool, Option, sym, refl, ap, ◌∙◌, subst, inl, inr, arith, Bor}
+use Rattle.std.proofs.Common.{ℕ, ◌≤◌, Bool, true, false, List, [], ◌∷◌, ◌++◌, Some, None, MatchBool, Option, sym, refl, ap, ◌∙◌, subst, arith, Bor}
 use Rattle.std.proofs.lemmas.List.{append-nil, append_assoc, append_cancel_left}
-use Rattle.base.specs.declared.fault.Fault.{Fault}
-use Rattle.base.specs.Questions.{Refuses}
 use Rattle.text.specs.Stored.{stored}
 use Rattle.text.specs.Utf16.{Text, utf16}
 use Rattle.text.proofs.Pairing.{text_append, text_units}
@@ -58,8 +56,3 @@ all_passed raw cooked (Some rest) true us c p h =
     (us, c, (cooks_text raw us c, sym (append-nil (stored us)) ∙ ap (λ l. stored us ++ l) (sym h) ∙ sym p))
 all_passed raw cooked (Some rest) false us c p h =
     λ k. h (append_cancel_left (stored us) rest.now [] (sym p ∙ sym k.2.1 ∙ ap stored (cooks_once raw k.0 us k.1 c) ∙ sym (append-nil (stored us))))
-
--- Malformed raw text cooks to nothing.
-pub refused : (raw cooked : List ℕ) (e : Fault) → Refuses (((12, 0), (us : List ℕ) × Cooks raw us) ∷ []) e → CooksTo raw cooked → ⊥
-refused raw cooked e (inl bad) k = bad.1 (k.0, k.1)
-refused raw cooked e (inr bad) k = absurd bad.1

@@ -1,12 +1,8 @@
-use Rattle.std.proofs.Common.{refl, ◌∷◌, [], sym, subst, eqb, get_or, ◌+◌}
+use Rattle.std.proofs.Common.{◌∷◌, [], sym, subst, eqb, get_or, ◌+◌}
 use Rattle.template.specs.Sinks.{Adds}
-use Rattle.template.proofs.Adding.{adds_nothing}
-use Rattle.template.proofs.LineEnds.{Lined, lined_put, lined_skip, lined_all}
+use Rattle.template.proofs.LineEnds.{Lined, lined_put, lined_skip}
 use Rattle.template.proofs.cooking.put_lines.Goals as goal
 use Rattle.template.proofs.cooking.put_lines.Goals.{in-Some, in_default}
-
-pub loop-byte-init : goal.loop-byte-init
-loop-byte-init g c = ([], adds_nothing g.S.Sink.Took c.args.sink.now, refl)
 
 pub loop-byte-preserved : goal.loop-byte-preserved
 loop-byte-preserved g c =
@@ -26,8 +22,3 @@ loop-byte-preserved g c =
       | in_default w ↦
           subst (λ s. Lined took start s run (eqb (get_or run k 0) 13) (k + 1)) (sym w.sink-is) (lined_skip took start now run cr k low inv w.in_default.ensures)
     ]
-
-pub returns : goal.returns
-returns g c =
-    lined_all g.S.Sink.Took c.args.sink.now c.loop-byte.sink c.args.run.now c.loop-byte.after_cr c.loop-byte.byte-index
-    c.loop-byte-test.false c.loop-byte.invariant

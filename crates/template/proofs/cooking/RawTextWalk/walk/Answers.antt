@@ -1,13 +1,8 @@
-use Rattle.std.proofs.Common.{None, Ok, sym, subst}
+use Rattle.std.proofs.Common.{Ok, subst}
 use Rattle.std.proofs.lemmas.Result.{err_from_is_err_and}
 use Rattle.template.specs.Raw.{left_of, NextPart}
-use Rattle.template.proofs.CookWalk.{CookWalk, part_read, part_stands, part_less, cook_start, cook_step, cook_finish, cook_refuse}
+use Rattle.template.proofs.CookWalk.{part_read, part_less, cook_step, cook_finish, cook_refuse}
 use Rattle.template.proofs.cooking.RawTextWalk.walk.Goals as goal
-
-pub loop-part-init : goal.loop-part-init
-loop-part-init g c =
-    subst (λ left. CookWalk g.S.Sink.Took c.args.sink.now c.args.self.now.raw.now left c.args.sink.now None) (sym c.new-reader.ensures)
-    (cook_start g.S.Sink.Took c.args.sink.now c.args.self.now.raw.now)
 
 pub returns-in_err-part : goal.returns-in_err-part
 returns-in_err-part g c =
@@ -17,13 +12,6 @@ returns-in_err-part g c =
       cook_refuse g.S.Sink.Took c.args.sink.now c.args.self.now.raw.now (left_of c.loop-part.reader) c.loop-part.sink c.loop-part.withheld.lead c.in_err-part.field-0.0 w c.in_err-part.ensures.0,
       (w.3.0, w.3.1),
     )
-
-pub put_part-requires : goal.put_part-requires
-put_part-requires g c =
-    let left = c.loop-part.reader in
-    let right = c.next.new.self in
-    let part = c.in-Some.part in
-    part_stands part (left_of left) (left_of right) (part_read left right c.in_ok-part.field-0 part c.in-Some.is c.in_ok-part.ensures)
 
 pub loop-part-smaller : goal.loop-part-smaller
 loop-part-smaller g c =

@@ -15,11 +15,6 @@ returns-in_err-c g c =
     rw (p.1, p.2)
     (refuse g.S.Sink.Took c.args.sink.now c.args.self.now.text.now (rest_of at) (led_of at) c.loop-c.sink c.in_err-c.field-0.0 w c.in_err-c.ensures.0, (encodes (escapes w.0), w.4))
 
-pub escape_character-requires : goal.escape_character-requires
-escape_character-requires g c =
-    let n = read_one c.loop-c.characters c.next.new.self c.in_ok-c.field-0 c.in-Some.c c.in-Some.is c.in_ok-c.ensures in
-    record { code = n.0; bytes = n.2 }
-
 pub loop-c-smaller : goal.loop-c-smaller
 loop-c-smaller g c =
     let next = c.next.new.self in

@@ -34,12 +34,6 @@ returns-in_err-found c =
     rw c.from_residual-in_err-found.ensures
     (slash_none c.args.raw.now c.args.after.now c.requires (subst Frontless (sym split) c.in_err-found.ensures))
 
-pub before-requires-2 : goal.before-requires-2
-before-requires-2 c =
-    let split = slash_split c.args.raw.now c.args.after.now c.in_ok-c.rest.now c.in_ok-c.c c.requires c.in_ok-c.ensures.1 in
-    let found = c.in_ok-found.ensures in
-    (encodes (source (escape found.0)), split ∙ found.2.0)
-
 pub returns : goal.returns
 returns c =
     let raw = c.args.raw.now in

@@ -1,20 +1,11 @@
-use Rattle.std.proofs.Common.{◌≡◌, false, ◌∷◌, ◌++◌, sym, subst, arith, lit<, rules, ltb-false, ltb-true}
+use Rattle.std.proofs.Common.{◌≡◌, false, ◌∷◌, ◌++◌, sym, subst, arith, rules, ltb-false, ltb-true}
 use lib.Utf8.{encode}
 use Rattle.template.specs.Grammar.{is_decimal}
 use Rattle.template.specs.Fronts.{StandsFor}
 use Rattle.template.proofs.Hex.{decimal_false}
-use Rattle.template.proofs.Backslashes.{escapes_at, decimal_frontless, simple_found}
+use Rattle.template.proofs.Backslashes.{decimal_frontless, simple_found}
 use Rattle.template.proofs.raw.escapes.escape.Goals as goal
 use Rattle.template.proofs.raw.escapes.escape.Goals.{in_default-via-then-c-lt48, in_default-via-else-c-lt48+else-c-lt58}
-
-pub returns-in-0 : goal.returns-in-0
-returns-in-0 c = escapes_at c.args.c 0x30 c.args.rest.now c.null_escape.result c.in-0.is (lit< tt) c.null_escape.ensures
-
-pub returns-in-x : goal.returns-in-x
-returns-in-x c = escapes_at c.args.c 0x78 c.args.rest.now c.hex_escape.result c.in-x.is (lit< tt) c.hex_escape.ensures
-
-pub returns-in-u : goal.returns-in-u
-returns-in-u c = escapes_at c.args.c 0x75 c.args.rest.now c.unicode_escape.result c.in-u.is (lit< tt) c.unicode_escape.ensures
 
 pub returns-in-1-to-9 : goal.returns-in-1-to-9
 returns-in-1-to-9 c = decimal_frontless c.args.c c.args.rest.now (omega arith) (omega arith)

@@ -1,9 +1,6 @@
-use Rattle.std.proofs.Common.{get_or, ap, ◌∙◌, subst}
+use Rattle.std.proofs.Common.{get_or, ◌∙◌}
 use Rattle.std.specs.Char.{digit_value}
-use Rattle.std.proofs.lemmas.List.{take_all}
 use Rattle.std.proofs.lemmas.Bool.{ltb-true, lt-ltb}
-use Rattle.template.specs.Grammar.{HexDigits}
-use Rattle.template.specs.Fronts.{capped}
 use Rattle.template.proofs.Hex.{hex_more, hex_each, capped_more}
 use Rattle.template.proofs.raw.escapes.hex_number.Goals as goal
 
@@ -21,9 +18,3 @@ loop-d-preserved c =
       hex_more ds i c.loop-d-test.true c.loop-d.invariant.0 (lt-ltb (digit_value (get_or ds i 0)) 16 digit.0),
       c.min-number.ensures ∙ capped_more ds i c.loop-d.number c.in_ok-value.value c.loop-d-test.true c.loop-d.invariant.1 digit.1,
     )
-
-pub returns : goal.returns
-returns c =
-    let ds = c.args.digits.now in
-    let all = take_all c.loop-d.d-index ds c.loop-d-test.false in
-    (subst HexDigits all c.loop-d.invariant.0, c.loop-d.invariant.1 ∙ ap capped all)
