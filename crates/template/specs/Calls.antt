@@ -5,7 +5,6 @@ use Rattle.base.specs.Questions.{Refuses}
 use Rattle.text.specs.Stored.{stored, Stores}
 use Rattle.template.specs.Cooked.{Cooks}
 use Rattle.template.specs.Escaped.{raw_of}
-use Rattle.template.specs.Sinks.{Adds}
 
 -- A call whose input Means the text us writes `form us` to the front of the output, of which the rest stays. It leaves
 -- the output as it was where its input means no text, or where what it would write has no room.
@@ -13,11 +12,6 @@ abbrev pub Writes : (Means : List ℕ → Type 0) (form : List ℕ → List ℕ)
 Writes Means form old new (Ok n) = (us : List ℕ) × Means us × (n ≡ length (form us)) × (n ≤ length old) × (new ≡ form us ++ drop n old)
 Writes Means form old new (Err e) =
     (new ≡ old) × Refuses (((12, 0), (us : List ℕ) × Means us) ∷ ((13, 0), (us : List ℕ) → Means us → length (form us) ≤ length old) ∷ []) e
-
--- One walk over such an input hands `form us` on, or only a front of it where the input means no text.
-abbrev pub Walks : {S : Type 0} (Means : List ℕ → Type 0) (form : List ℕ → List ℕ) (Took : S → List ℕ → S → Type 0) (old new : S) → Result (Unit {0}) Fault → Type 0
-Walks Means form Took old new (Ok u) = (us : List ℕ) × Means us × Adds Took old (form us) new
-Walks Means form Took old new (Err e) = Refuses (((12, 0), (us : List ℕ) × Means us) ∷ []) e × ((front : List ℕ) × Adds Took old front new)
 
 -- Escaping writes the raw text of a stored text.
 abbrev pub Escapes : (text old new : List ℕ) → Result ℕ Fault → Type 0

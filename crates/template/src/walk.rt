@@ -1,6 +1,7 @@
 // Walking over a text, and writing it whole.
 ghost use Rattle.std.specs.Prelude.{◌≡◌, ℕ, List};
-ghost use Rattle.template.specs.Calls.{Writes, Walks};
+ghost use Rattle.template.specs.Calls.{Writes};
+ghost use Rattle.template.specs.Sinks.{Walks};
 
 use super::output::Output;
 use super::sink::Sink;

@@ -8,11 +8,6 @@ returns-then-len-out g c =
     let first = c.in_ok-walk.ensures in
     (refl, inr ((first.0, first.1), inl (refl, overfull (walk.Means c.args.text.now) walk.form c.new-measured.result c.walk.new.sink first.0 c.args.out.now first.1 c.new-measured.ensures.empty first.2 (omega arith) (omega arith))))
 
-pub returns-in_err-walk-2 : goal.returns-in_err-walk-2
-returns-in_err-walk-2 g c =
-    let first = c.in_ok-walk.ensures in
-    absurd (elim c.in_err-walk-2.ensures.0 [ inl bad ↦ bad.1 (first.0, first.1) | inr bad ↦ bad.1 ])
-
 pub returns : goal.returns
 returns g c =
     let walk = g.W.Walk in

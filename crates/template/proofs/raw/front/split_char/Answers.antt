@@ -1,6 +1,5 @@
-use Rattle.std.proofs.Common.{◌≡◌, ◌-◌, ◌≤◌, true, ◌++◌, length, take, drop, sym, ap, ◌∙◌, subst, arith, length-append}
+use Rattle.std.proofs.Common.{◌≡◌, ◌≤◌, true, length, drop, sym, ap, ◌∙◌, subst, arith, length-append}
 use lib.Utf8.{scalar, encode}
-use Rattle.std.proofs.lemmas.List.{take_rest}
 use Rattle.std.proofs.lemmas.Str.{encode_same}
 use Rattle.template.proofs.raw.front.split_char.Goals as goal
 
@@ -19,19 +18,5 @@ fits c =
     let own = encode c.in_ok-first.first.code in
     omega (arith, ap length h.1, ap length h.2, length-append own (drop (length own) c.args.bytes.now))
 
-pub slice_bounds-result-count : goal.slice_bounds-result-count
-slice_bounds-result-count c = fits c
-
 pub slice_bounds-result-start : goal.slice_bounds-result-start
 slice_bounds-result-start c = fits c
-
-pub returns : goal.returns
-returns c =
-    let bytes = c.args.bytes.now in
-    let code = c.in_ok-first.first.code in
-    let h = c.in_ok-first.ensures in
-    let char = c.in_ok-c.ensures.value in
-    let n = length c.in_ok-first.first.bytes.now in
-    let rest = take (length bytes - n) (drop n bytes) in
-    let split : bytes ≡ encode code ++ rest = h.2 ∙ ap (λ xs. encode code ++ drop (length xs) bytes) (sym h.1) ∙ ap (λ xs. encode code ++ xs) (sym (take_rest bytes n)) in
-    (subst (λ y. scalar y ≡ true) (sym char.1) char.0, split ∙ ap (λ y. encode y ++ rest) (sym char.1))

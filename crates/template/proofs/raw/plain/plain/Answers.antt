@@ -3,12 +3,9 @@ use lib.Utf8.{encode}
 use Rattle.std.proofs.lemmas.Str.{length-encode, len_utf8_bounds}
 use Rattle.template.specs.declared.raw.RawPart.TheVariants.{Plain}
 use Rattle.template.proofs.Parting.{parted}
-use Rattle.template.proofs.PlainRuns.{ends_at, run_none, run_more, run_found}
+use Rattle.template.proofs.PlainRuns.{ends_at, run_more, run_found}
 use Rattle.template.proofs.LostRuns.{run_lost}
 use Rattle.template.proofs.raw.plain.plain.Goals as goal
-
-pub loop-rest-init : goal.loop-rest-init
-loop-rest-init c = run_none c.args.raw.now
 
 pub returns-in_err-rest : goal.returns-in_err-rest
 returns-in_err-rest c =
