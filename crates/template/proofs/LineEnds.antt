@@ -1,6 +1,6 @@
 -- A plain run byte by byte, with LF for each line end.
-use Rattle.std.proofs.Common.{◌≡◌, ℕ, ◌+◌, ◌<◌, ◌≤◌, Bool, false, eqb, List, [], ◌∷◌, ◌++◌, length, get_or, drop, Some, None, sym, ap, ◌∙◌, subst}
-use Rattle.std.proofs.lemmas.List.{append-nil, append_assoc, drop_more, drop_all}
+use Rattle.std.proofs.Common.{◌≡◌, ℕ, ◌+◌, ◌<◌, Bool, false, eqb, List, [], ◌∷◌, ◌++◌, length, get_or, drop, Some, None, sym, ap, ◌∙◌}
+use Rattle.std.proofs.lemmas.List.{append_assoc, drop_more}
 use Rattle.template.specs.Lines.{normal, LineByte}
 use Rattle.template.specs.Sinks.{Adds}
 use Rattle.template.proofs.Adding.{adds_both}
@@ -28,9 +28,3 @@ module _ {S : Type 0} (Took : S → List ℕ → S → Type 0) where
   pub lined_skip : (start now : S) (run : List ℕ) (after_cr : Bool) (k : ℕ) → k < length run → Lined Took start now run after_cr k
       → LineByte after_cr (get_or run k 0) None → Lined Took start now run (eqb (get_or run k 0) 13) (k + 1)
   lined_skip start now run after_cr k h inv is = (inv.0, inv.1, ap (λ l. inv.0 ++ l) (sym (next_byte run after_cr k h ∙ is (drop (k + 1) run))) ∙ inv.2)
-
-  -- At the end all of the run is handed on.
-  pub lined_all : (start now : S) (run : List ℕ) (after_cr : Bool) (k : ℕ) → length run ≤ k → Lined Took start now run after_cr k → Adds Took start (normal false run) now
-  lined_all start now run after_cr k h inv =
-      let all : inv.0 ≡ normal false run = sym (append-nil inv.0) ∙ ap (λ l. inv.0 ++ normal after_cr l) (sym (drop_all k run h)) ∙ inv.2 in
-      subst (λ l. Adds Took start l now) all inv.1
