@@ -1,5 +1,6 @@
 -- From the questions of each step to those of load.
 use Rattle.std.proofs.Common.{◌≡◌, ℕ, List, ◌∷◌, ◌++◌, map, length, drop, Ok, sym, refl, ap, ◌∙◌, subst, inl, inr, arith}
+use Rattle.std.proofs.lemmas.List.{length-map}
 use Rattle.base.specs.declared.fault.Fault.{Fault}
 use Rattle.base.specs.declared.fault.Fault.TheVariants.{StoresTooSmall}
 use Rattle.base.specs.Questions.{Refuses, Granted}
@@ -13,10 +14,10 @@ use Rattle.tree.proofs.Cuts.{length_cut}
 use Rattle.file.specs.declared.sections.Sections.{Sections}
 use Rattle.file.specs.declared.loaded.Loaded.{Loaded}
 use Rattle.file.specs.Calls.{loaded_stores, loaded_root, Holds, DenotesPayoff, Loads}
-use Rattle.file.specs.Format.{record_of}
+use Rattle.file.specs.Format.{word, record_of}
 use Rattle.file.specs.Layout.{layout, root, node_count, entry_count, text_count, text_offset}
 use Rattle.file.specs.Lawful.{Contents, LawfulFile, Fits, LawfulRecord, size_questions, record_questions, link_questions, load_questions}
-use Rattle.file.specs.Steps.{laid, WellCut, CutsInto, FitsIn, AllRecords, AllLinks, Checked, CopiesTo}
+use Rattle.file.specs.Steps.{laid, CutsInto, FitsIn, AllRecords, AllLinks, Checked, CopiesTo}
 use Rattle.file.proofs.Counted.{length_words}
 use Rattle.file.proofs.Granting.{held_lawful}
 use Rattle.file.proofs.TreeOf.{payoff_of}
@@ -28,12 +29,12 @@ module _ (file : List ℕ) (rooms : Counts) (s : Sections) (k : CutsInto file (O
   same : laid s ≡ layout file
   same = k.2
 
-  count_same : s.nodes.count ≡ node_count file
+  count_same : length s.nodes.now ≡ node_count file
   count_same = ap (λ l. l.count) same
 
-  entries_same : s.entries.count ≡ entry_count file
+  entries_same : length s.entries.now ≡ entry_count file
   entries_same =
-      sym (length_words s.entries.bytes.now 0 s.entries.count) ∙ ap (λ l. length l.entries) same ∙ length_words _ 0 (entry_count file)
+      sym (length-map s.entries.now (λ entry. word entry 0)) ∙ ap (λ l. length l.entries) same ∙ length_words _ 0 (entry_count file)
 
   text_same : length s.text.now ≡ text_count file
   text_same = ap (λ l. length l.text) same ∙ length_cut file (text_offset file) (text_count file) (omega (arith, k.1.whole, k.1.text_last))
@@ -68,19 +69,16 @@ module _ (file : List ℕ) (rooms : Counts) (s : Sections) (k : CutsInto file (O
       (subst (λ l. Refuses (link_questions l) e) same r))
 
   pub all_checked : FitsIn s rooms → AllRecords (laid s) → AllLinks (laid s) → Checked file rooms (Ok s)
-  all_checked f all links = (k.0, k.1, fits_file f, subst AllRecords same all, subst AllLinks same links, same, k.3, f)
+  all_checked f all links = (k.0, k.1, fits_file f, subst AllRecords same all, subst AllLinks same links, same, f)
 
 -- ---- what is loaded
 
 module _ (file : List ℕ) (old new : Stores) (s : Sections) (k : Checked file (rooms_of old) (Ok s)) where
-  pub copy_cut : WellCut s
-  copy_cut = k.6
-
   pub copy_records : AllRecords (laid s)
   copy_records = subst AllRecords (sym k.5) k.3
 
   pub copy_space : FitsIn s (rooms_of old)
-  copy_space = k.7
+  copy_space = k.6
 
   module _ (c : CopiesTo (laid s) old new) where
     contained : Contents (layout file) (held_of new)

@@ -1,14 +1,17 @@
 -- Asking one question of each node.
-use Rattle.std.proofs.Common.{◌≡◌, ℕ, ◌<◌, sym, refl, ◌∙◌, subst, arith}
+use Rattle.std.proofs.Common.{◌≡◌, ◌≢◌, ℕ, ◌<◌, Err, Result, Some, None, Option, MatchOption, sym, refl, ◌∙◌, subst, arith}
+use Rattle.std.specs.Option.{ok_or}
+use Rattle.base.specs.declared.fault.Fault.{Fault}
 use Rattle.base.specs.declared.fault.Fault.TheVariants.{BadRecord}
 use Rattle.base.specs.Questions.{Refuses}
 use Rattle.base.proofs.Asking.{refuses_each}
 use Rattle.tree.specs.declared.node.Node.{Node}
+use Rattle.file.specs.declared.record.Record.{Record}
 use Rattle.file.specs.Format.{record_at, record_of}
 use Rattle.file.specs.Layout.{Layout}
 use Rattle.file.proofs.OneNode.{one_node}
 use Rattle.file.specs.Lawful.{LawfulNode, LawfulRecord, record_questions}
-use Rattle.file.specs.Steps.{RecordsTo}
+use Rattle.file.specs.Steps.{RecordsTo, NodeAt, NodeChecked}
 
 pub record_refused : (l : Layout) (x : ℕ) → x < l.count → RecordsTo l x → (LawfulRecord l x → ⊥) → Refuses (record_questions l) (BadRecord x)
 record_refused l x lt low not = refuses_each 4 (LawfulRecord l) (BadRecord x) 0 l.count x refl (omega arith) (omega arith) (λ y a b. low y b) not
@@ -16,3 +19,16 @@ record_refused l x lt low not = refuses_each 4 (LawfulRecord l) (BadRecord x) 0 
 -- A record whose node is not lawful is not lawful.
 pub unlawful_record : (l : Layout) (x : ℕ) (n : Node) → record_of n ≡ record_at l.rows x → (LawfulNode l.entries l.text n → ⊥) → LawfulRecord l x → ⊥
 unlawful_record l x n e not r = not (subst (LawfulNode l.entries l.text) (one_node r.0 n (r.1 ∙ sym e)) r.2)
+
+-- What is read of record x is its node.
+pub node_at : (l : Layout) (x : ℕ) (o : Option Node) (r : Record) → x < l.count → r ≡ record_at l.rows x → MatchOption o ((n : Node) → record_of n ≢ r) (λ n. record_of n ≡ r) → NodeAt l x o
+node_at l x None r lt e w = λ _ n f. w n (f ∙ sym e)
+node_at l x (Some n) r lt e w = (lt, w ∙ e)
+
+-- A question of a node that is answered by it, or by a fault.
+pub node_found : (l : Layout) (x : ℕ) (o : Option Node) (n : Node) → NodeChecked l x o → o ≡ Some n → (record_of n ≡ record_at l.rows x) × LawfulNode l.entries l.text n
+node_found l x o n w is = subst (NodeChecked l x) is w
+
+pub node_refused : (l : Layout) (x : ℕ) (o : Option Node) (e : Fault) → x < l.count → RecordsTo l x → NodeChecked l x o → ◌≡◌ {A = Result Node Fault} (Err e) (ok_or o (BadRecord x)) → Refuses (record_questions l) e
+node_refused l x None e lt below w is = let f : e ≡ BadRecord x = cc in subst (Refuses (record_questions l)) (sym f) (record_refused l x lt below (w lt))
+node_refused l x (Some n) e lt below w is = absurd (let z : ◌≡◌ {A = ℕ} 0 1 = cc in omega arith)

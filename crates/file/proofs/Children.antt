@@ -1,14 +1,12 @@
 -- A node's children, as the file names them.
-use Rattle.std.proofs.Common.{◌≡◌, ℕ, zero, suc, ◌+◌, ◌-◌, ◌*◌, ◌<◌, ◌≤◌, true, List, [], ◌∷◌, ◌++◌, length, take, drop, Some, None, sym, refl, ap, ◌∙◌, arith}
+use Rattle.std.proofs.Common.{◌≡◌, ℕ, zero, suc, ◌+◌, ◌-◌, ◌*◌, ◌<◌, ◌≤◌, List, [], ◌∷◌, ◌++◌, length, take, drop, Some, None, sym, refl, ap, ◌∙◌, arith, length-append, length-take}
 use Rattle.std.specs.List.{slice_get}
 use Rattle.std.proofs.lemmas.Option.{slice_get_past}
 use Rattle.tree.specs.declared.node.Node.{Node}
 use Rattle.tree.specs.declared.role.Child.TheVariants.{Entry}
-use Rattle.tree.specs.Heap.{links, list_of, cut, children, inside}
+use Rattle.tree.specs.Heap.{links, list_of, cut, children}
 use Rattle.tree.specs.Roles.{NamesChild}
-use Rattle.tree.proofs.Records.{list_inside, length_children}
 use Rattle.file.specs.Format.{word, words}
-use Rattle.file.proofs.Counted.{length_words}
 
 nth_take : {X : Type 0} (n : ℕ) (xs : List X) (k : ℕ) → k < n → slice_get (take n xs) k ≡ slice_get xs k
 nth_take zero xs k lt = absurd (omega arith)
@@ -31,22 +29,22 @@ nth_words bytes j zero k lt = absurd (omega arith)
 nth_words bytes j (suc n) zero lt = let e : j ≡ j + 0 = omega arith in ap (λ i. Some (word bytes (4 * i))) e
 nth_words bytes j (suc n) (suc k) lt = let e : suc j + k ≡ j + suc k = omega arith in nth_words bytes (suc j) n k (omega arith) ∙ ap (λ i. Some (word bytes (4 * i))) e
 
-module _ (bytes text : List ℕ) (m : ℕ) (n : Node) (k : ℕ) (inn : inside (words bytes 0 m) text n ≡ true) where
-  -- A child that is named by an entry.
-  pub entry_low : (i : ℕ) → NamesChild n k (Some (Entry i)) → i < m
-  entry_low i c = omega (arith, c.0, c.1, c.2, list_inside (words bytes 0 m) text n inn, length_words bytes 0 m)
+-- A node has no more children than it names.
+pub children_most : (es : List ℕ) (n : Node) → length (children es n) ≤ length (links n) + (list_of n).len
+children_most es n =
+    let len : length (cut es (list_of n).start (list_of n).len) ≤ (list_of n).len = simp length-take (omega arith) in
+    omega (arith, length-append (links n) (cut es (list_of n).start (list_of n).len), len)
 
-  pub entry_is : (i : ℕ) → NamesChild n k (Some (Entry i)) → slice_get (children (words bytes 0 m) n) k ≡ Some (word bytes (4 * i))
+module _ (es : List ℕ) (n : Node) (k : ℕ) where
+  -- A child that is named by an entry.
+  pub entry_is : (i : ℕ) → NamesChild n k (Some (Entry i)) → slice_get (children es n) k ≡ slice_get es i
   entry_is i c =
       let start = (list_of n).start in
       let len = (list_of n).len in
-      let at : start + (k - length (links n)) ≡ i = sym c.2 in
-      nth_right (links n) (cut (words bytes 0 m) start len) k c.0
-      ∙ nth_take len (drop start (words bytes 0 m)) (k - length (links n)) (omega (arith, c.0, c.1))
-      ∙ nth_drop start (words bytes 0 m) (k - length (links n))
-      ∙ ap (slice_get (words bytes 0 m)) at
-      ∙ nth_words bytes 0 m i (entry_low i c)
-      ∙ ap (λ j. Some (word bytes (4 * j))) (omega arith)
+      nth_right (links n) (cut es start len) k c.0
+      ∙ nth_take len (drop start es) (k - length (links n)) (omega (arith, c.0, c.1))
+      ∙ nth_drop start es (k - length (links n))
+      ∙ ap (slice_get es) (sym c.2)
 
-  pub no_child : NamesChild n k None → slice_get (children (words bytes 0 m) n) k ≡ None
-  no_child le = slice_get_past (children (words bytes 0 m) n) k (omega (arith, length_children (words bytes 0 m) text n inn, le))
+  pub no_child : NamesChild n k None → slice_get (children es n) k ≡ None
+  no_child le = slice_get_past (children es n) k (omega (arith, children_most es n, le))

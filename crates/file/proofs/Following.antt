@@ -1,10 +1,11 @@
 -- Following a node's links, child by child.
-use Rattle.std.proofs.Common.{◌≡◌, ℕ, zero, suc, ◌+◌, ◌<◌, ◌≤◌, Bool, true, false, List, [], ◌∷◌, length, take, Some, None, MatchBool, Option, sym, ap, ◌∙◌, subst, inl, inr, arith, take_all}
+use Rattle.std.proofs.Common.{◌≡◌, ℕ, zero, suc, ◌+◌, ◌<◌, ◌≤◌, Bool, true, false, ◌&&◌, List, [], ◌∷◌, length, take, Some, None, MatchBool, Option, sym, ap, ◌∙◌, subst, inl, inr, arith, take_all}
 use Rattle.std.specs.List.{slice_get}
 use Rattle.std.proofs.lemmas.Bool.{cases_eq}
 use Rattle.tree.specs.declared.node.Node.{Node}
 use Rattle.tree.specs.Tree.{same}
 use Rattle.tree.specs.Heap.{children}
+use Rattle.tree.specs.Roles.{role_of_node}
 use Rattle.tree.specs.Laws.{count}
 use Rattle.tree.proofs.Cuts.{nth_low}
 use Rattle.file.specs.Layout.{Layout}
@@ -18,7 +19,7 @@ nth_none (x ∷ xs) (suc k) e = omega (arith, nth_none xs k e)
 
 -- The first k children are reached.
 abbrev pub ReachedBelow : Layout → ℕ → Node → ℕ → Type 0
-ReachedBelow l x n k = (j c : ℕ) → j < k → slice_get (children l.entries n) j ≡ Some c → Reached l x n j c
+ReachedBelow l x n k = (j c : ℕ) → j < k → slice_get (children l.entries n) j ≡ Some c → Reached l x (role_of_node n j) c
 
 -- The first k children are counted, and `all` says whether they are reached.
 abbrev pub Followed : Layout → ℕ → Node → (old new : List ℕ) (k : ℕ) → Bool → Type 0
@@ -37,25 +38,37 @@ module _ (l : Layout) (x : ℕ) (n : Node) (old : List ℕ) where
         tallied_as new (λ y. f y + count y (take k (children l.entries n)) + same y c) (λ y. f y + count y (take (k + 1) (children l.entries n)))
         (λ y. omega (arith, count_more (children l.entries n) k c y at)) (more (λ y. f y + count y (take k (children l.entries n))) (before f t))
 
-    reached_more : ReachedBelow l x n k → Reached l x n k c → ReachedBelow l x n (k + 1)
+    reached_more : ReachedBelow l x n k → Reached l x (role_of_node n k) c → ReachedBelow l x n (k + 1)
     reached_more low here j d lt is =
         elim (cases_eq j k) [
           | inl e ↦
               let f : ◌≡◌ {A = Option ℕ} (Some d) (Some c) = sym is ∙ ap (slice_get (children l.entries n)) e ∙ at in
               let g : d ≡ c = cc in
-              subst (λ i. Reached l x n i d) (sym e) (subst (Reached l x n k) (sym g) here)
+              subst (λ i. Reached l x (role_of_node n i) d) (sym e) (subst (Reached l x (role_of_node n k)) (sym g) here)
           | inr ne ↦ low j d (omega arith) is
         ]
 
-    when_more : (b : Bool) → MatchBool b (ReachedBelow l x n k) (AllReached l x n → ⊥) → Reached l x n k c → MatchBool b (ReachedBelow l x n (k + 1)) (AllReached l x n → ⊥)
-    when_more true w here = reached_more w here
-    when_more false w here = w
+    when_more : (a b : Bool) → MatchBool a (ReachedBelow l x n k) (AllReached l x n → ⊥) → MatchBool b (Reached l x (role_of_node n k) c) (Reached l x (role_of_node n k) c → ⊥)
+        → MatchBool (a && b) (ReachedBelow l x n (k + 1)) (AllReached l x n → ⊥)
+    when_more true true w here = reached_more w here
+    when_more true false w not = λ all. not (all k c at)
+    when_more false b w here = w
 
-    pub follow_more : (b : Bool) → Followed l x n old mid k b → Reached l x n k c → Followed l x n old new (k + 1) b
-    follow_more b w here = (counted w.0, when_more b w.1 here)
+    pub follow_more : (a b : Bool) → Followed l x n old mid k a → MatchBool b (Reached l x (role_of_node n k) c) (Reached l x (role_of_node n k) c → ⊥) → Followed l x n old new (k + 1) (a && b)
+    follow_more a b w here = (counted w.0, when_more a b w.1 here)
 
-    pub follow_bad : (b : Bool) → Followed l x n old mid k b → (Reached l x n k c → ⊥) → Followed l x n old new (k + 1) false
-    follow_bad b w not = (counted w.0, λ all. not (all k c at))
+  -- There is no child k.
+  module _ (mid : List ℕ) (k : ℕ) (past : length (children l.entries n) ≤ k) where
+    pub follow_past : (a : Bool) → Followed l x n old mid k a → Followed l x n old mid (k + 1) a
+    follow_past a w = (
+      λ f t. tallied_as mid (λ y. f y + count y (take k (children l.entries n))) (λ y. f y + count y (take (k + 1) (children l.entries n)))
+          (λ y. ap (λ ks. f y + count y ks) (take_all k (children l.entries n) past ∙ sym (take_all (k + 1) (children l.entries n) (omega arith)))) (w.0 f t),
+      when_past a w.1,
+    )
+      where
+        when_past : (b : Bool) → MatchBool b (ReachedBelow l x n k) (AllReached l x n → ⊥) → MatchBool b (ReachedBelow l x n (k + 1)) (AllReached l x n → ⊥)
+        when_past true v = λ j c lt at. v j c (omega (arith, nth_low (children l.entries n) j c at)) at
+        when_past false v = v
 
   when_all : (k : ℕ) → length (children l.entries n) ≤ k → (b : Bool) → MatchBool b (ReachedBelow l x n k) (AllReached l x n → ⊥) → MatchBool b (AllReached l x n) (AllReached l x n → ⊥)
   when_all k le true w = λ j c at. w j c (omega (arith, nth_low (children l.entries n) j c at)) at

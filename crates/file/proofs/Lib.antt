@@ -1,9 +1,11 @@
 pub mod Answering
 pub mod Asked
 pub mod Children
+pub mod Chunks
 pub mod Contained
 pub mod Copied
 pub mod Counted
+pub mod Cutting
 pub mod Determined
 pub mod Following
 pub mod Granting

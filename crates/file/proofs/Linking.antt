@@ -1,5 +1,5 @@
 -- From what the code finds of links to what is asked of them.
-use Rattle.std.proofs.Common.{◌≡◌, ℕ, suc, ◌<◌, true, List, Some, sym, refl, ap, ◌∙◌, subst, arith}
+use Rattle.std.proofs.Common.{◌≡◌, ℕ, suc, ◌<◌, Bool, true, false, List, Some, None, Option, MatchOption, MatchBool, sym, refl, ap, ◌∙◌, subst, arith}
 use Rattle.tree.specs.declared.node.Node.{Node}
 use Rattle.tree.specs.declared.node.Node.TheVariants.{String, Number, Boolean, Null, Name, Hole, Spread, Array, StaticMember, ComputedMember, Call, Template, Quasi, Unary, Binary, Opaque}
 use Rattle.tree.specs.declared.role.Sort.TheVariants.{IsExpression}
@@ -9,7 +9,7 @@ use Rattle.tree.specs.Roles.{sort_of_node, role_of_node}
 use Rattle.file.specs.Format.{record_at, record_of}
 use Rattle.file.specs.Layout.{Layout}
 use Rattle.file.specs.Lawful.{Contents, LawfulNode, LawfulRecord, ExpressionRow, LawfulRoot, LinksRow}
-use Rattle.file.specs.Steps.{RecordsTo, AllRecords, AllReached, LinksAt}
+use Rattle.file.specs.Steps.{NodeAt, RecordsTo, AllRecords, AllReached, LinksAt}
 use Rattle.file.proofs.OneNode.{one_node}
 use Rattle.file.proofs.Contained.{holding, how_many, row_there}
 
@@ -75,17 +75,24 @@ root_other l all last n e not r =
 pub root_not_last : (l : Layout) → AllRecords l → (suc l.top ≡ l.count → ⊥) → LawfulRoot l → ⊥
 root_not_last l all not r = let h = holding l all in not ((r h.0 h.1).0 ∙ how_many l h.0 h.1)
 
+-- The answer about the root, from what stands there.
+pub root_answer : (l : Layout) → AllRecords l → suc l.top ≡ l.count → (o : Option Node) → NodeAt l l.top o → (b : Bool) → MatchOption o (b ≡ false) (λ n. MatchBool b (sort_of_node n ≡ IsExpression) (sort_of_node n ≡ IsExpression → ⊥))
+    → MatchBool b (LawfulRoot l) (LawfulRoot l → ⊥)
+root_answer l all last None at b is = let r = all l.top (omega arith) in absurd (at (omega arith) r.0 r.1)
+root_answer l all last (Some n) at true is = root_found l all last n at.1 is
+root_answer l all last (Some n) at false not = root_other l all last n at.1 not
+
 -- A record without a node is not lawful.
 pub no_node : (l : Layout) (x : ℕ) → LawfulRecord l x → ((n : Node) → record_of n ≡ record_at l.rows x → ⊥) → ⊥
 no_node l x r not = not r.0 r.1
 
 -- ---- a node's links
 
-admits_there : (l : Layout) (c : ℕ) (r : LawfulRecord l c) (low : c < l.count) (h : Held) → Contents l h → (n : Node) (k : ℕ)
-    → ((m : Node) → record_of m ≡ record_at l.rows c → admits (role_of_node n k) (sort_of_node m) ≡ true) → AdmitsRow (role (own l.text n) k) (look h c)
-admits_there l c r low h cs n k ok =
-    subst (AdmitsRow (role (own l.text n) k)) (sym (row_is l c r r.0 r.1 low h cs))
-    (ap (λ a. admits a (sort_of (own l.text r.0))) (role_own l.text n k) ∙ ap (admits (role_of_node n k)) (sort_own l.text r.0) ∙ ok r.0 r.1)
+admits_there : (l : Layout) (c : ℕ) (r : LawfulRecord l c) (low : c < l.count) (h : Held) → Contents l h → (n : Node) (k : ℕ) (m : Node) → record_of m ≡ record_at l.rows c
+    → admits (role_of_node n k) (sort_of_node m) ≡ true → AdmitsRow (role (own l.text n) k) (look h c)
+admits_there l c r low h cs n k m e ok =
+    subst (AdmitsRow (role (own l.text n) k)) (sym (row_is l c r m e low h cs))
+    (ap (λ a. admits a (sort_of (own l.text m))) (role_own l.text n k) ∙ ap (admits (role_of_node n k)) (sort_own l.text m) ∙ ok)
 
 module _ (l : Layout) (x : ℕ) (below : RecordsTo l x) (low : x < l.count) (n : Node) (e : record_of n ≡ record_at l.rows x) (lawful : LawfulNode l.entries l.text n) (h : Held) (cs : Contents l h) where
   pub node_row : look h x ≡ Some (own l.text n, children l.entries n)
@@ -94,13 +101,14 @@ module _ (l : Layout) (x : ℕ) (below : RecordsTo l x) (low : x < l.count) (n :
   pub links_found : AllReached l x n → LinksAt h x
   links_found ok =
       subst (LinksRow (look h) x) (sym node_row)
-      (λ k c at. let r = ok k c at in (r.0, admits_there l c (below c r.0) (omega (arith, r.0)) h cs n k r.1))
+      (λ k c at. let r = ok k c at in (r.0, admits_there l c (below c r.0) (omega (arith, r.0)) h cs n k r.1.0 r.1.1.1 r.1.2))
 
   pub links_back : LinksAt h x → AllReached l x n
   links_back ok k c at =
-      let r = subst (LinksRow (look h) x) node_row ok k c at in (
+      let r = subst (LinksRow (look h) x) node_row ok k c at in
+      let b = below c r.0 in
+      let lt : c < l.count = omega (arith, r.0) in
+      let a = subst (AdmitsRow (role (own l.text n) k)) (row_is l c b b.0 b.1 lt h cs) r.1 in (
         r.0,
-        λ m f.
-            let a = subst (AdmitsRow (role (own l.text n) k)) (row_is l c (below c r.0) m f (omega (arith, r.0)) h cs) r.1 in
-            sym (ap (admits (role_of_node n k)) (sort_own l.text m)) ∙ sym (ap (λ b. admits b (sort_of (own l.text m))) (role_own l.text n k)) ∙ a,
+        (b.0, (lt, b.1), sym (ap (admits (role_of_node n k)) (sort_own l.text b.0)) ∙ sym (ap (λ i. admits i (sort_of (own l.text b.0))) (role_own l.text n k)) ∙ a),
       )

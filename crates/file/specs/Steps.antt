@@ -2,7 +2,6 @@
 use Rattle.std.specs.Prelude.{◌≡◌, ℕ, ◌+◌, ◌*◌, ◌<◌, ◌≤◌, min, true, List, [], ◌∷◌, map, length, Some, None, Ok, Err, Option, Result, ◌≢◌, slice_index}
 use Rattle.std.specs.List.{slice_get}
 use Rattle.base.specs.declared.fault.Fault.{Fault}
-use Rattle.base.specs.declared.fault.Fault.TheVariants.{BadRecord}
 use Rattle.base.specs.Questions.{Refuses}
 use Rattle.file.specs.declared.sections.Header.{Header}
 use Rattle.file.specs.declared.sections.Place.{Place}
@@ -11,13 +10,15 @@ use Rattle.store.specs.declared.store.Store.{Store}
 use Rattle.store.specs.declared.stores.Stores.{Stores}
 use Rattle.store.specs.declared.stores.Counts.{Counts}
 use Rattle.store.specs.Held.{Refilled}
-use Rattle.file.specs.Format.{word, words, records, record_at, record_of}
+use Rattle.file.specs.Arrays.{bytes_of}
+use Rattle.file.specs.Format.{word, records, record_at, record_of}
 use Rattle.file.specs.Layout.{Versioned, Sized, Layout, layout}
 use Rattle.file.specs.Lawful.{size_questions, record_questions, link_questions, LawfulNode, LawfulRecord, LawfulRoot, LawfulLinks, LinksRow, Contents, due, Fits, load_questions}
 use Rattle.text.specs.Stored.{Lawful}
 use Rattle.template.specs.Cooked.{CooksTo}
 use Rattle.tree.specs.declared.node.FirstChild.{FirstChild}
-use Rattle.tree.specs.declared.run.Run.{Run}
+use Rattle.tree.specs.declared.role.Role.{Role}
+use Rattle.tree.specs.declared.node.TextRun.{TextRun}
 use Rattle.tree.specs.Tree.{opaque}
 use Rattle.tree.specs.Lawful.{LawfulOwn, admits}
 use Rattle.tree.specs.declared.node.Node.{Node}
@@ -50,23 +51,14 @@ abbrev pub laid : Sections → Layout
 laid s =
     record {
       top = s.root;
-      count = s.nodes.count;
-      rows = s.nodes.bytes.now;
-      entries = words s.entries.bytes.now 0 s.entries.count;
+      count = length s.nodes.now;
+      rows = bytes_of s.nodes.now;
+      entries = map (λ entry. word entry 0) s.entries.now;
       text = s.text.now;
     }
 
--- Sections are as long as their counts say, and keep to the limits.
-pub record WellCut (s : Sections) : Type 0 where
-  pub some_node : 1 ≤ s.nodes.count
-  pub few_nodes : s.nodes.count ≤ 4096
-  pub few_entries : s.entries.count ≤ 16384
-  pub little_text : length s.text.now ≤ 65536
-  pub row_bytes : length s.nodes.bytes.now ≡ 20 * s.nodes.count
-  pub entry_bytes : length s.entries.bytes.now ≡ 4 * s.entries.count
-
 abbrev pub CutsInto : List ℕ → Result Sections Fault → Type 0
-CutsInto file (Ok s) = Versioned file × Sized file × (laid s ≡ layout file) × WellCut s
+CutsInto file (Ok s) = Versioned file × Sized file × (laid s ≡ layout file)
 CutsInto file (Err e) = Refuses (size_questions file) e
 
 -- What an opaque node owes for its first child.
@@ -89,17 +81,22 @@ RecordsTo l n = (x : ℕ) → x < n → LawfulRecord l x
 abbrev pub AllRecords : Layout → Type 0
 AllRecords l = RecordsTo l l.count
 
--- The node of record x, or that the record is unlawful.
-abbrev pub NodeChecked : Layout → ℕ → Result Node Fault → Type 0
-NodeChecked l x (Ok n) = (record_of n ≡ record_at l.rows x) × LawfulNode l.entries l.text n
-NodeChecked l x (Err e) = (e ≡ BadRecord x) × (LawfulRecord l x → ⊥)
+-- The node of record x, where there is one.
+abbrev pub NodeAt : Layout → ℕ → Option Node → Type 0
+NodeAt l x None = x < l.count → (n : Node) → record_of n ≢ record_at l.rows x
+NodeAt l x (Some n) = (x < l.count) × (record_of n ≡ record_at l.rows x)
 
--- The child k of node x, whose number is c, is lower, and what stands there may stand as child k of the node n.
-abbrev pub Reached : Layout → ℕ → Node → ℕ → ℕ → Type 0
-Reached l x n k c = (c < x) × ((m : Node) → record_of m ≡ record_at l.rows c → admits (role_of_node n k) (sort_of_node m) ≡ true)
+-- The node of record x, where that is lawful.
+abbrev pub NodeChecked : Layout → ℕ → Option Node → Type 0
+NodeChecked l x None = x < l.count → LawfulRecord l x → ⊥
+NodeChecked l x (Some n) = (record_of n ≡ record_at l.rows x) × LawfulNode l.entries l.text n
+
+-- The child c of node x is lower, and what stands there may stand in this role.
+abbrev pub Reached : Layout → ℕ → Role → ℕ → Type 0
+Reached l x r c = (c < x) × ((m : Node) × NodeAt l c (Some m) × (admits r (sort_of_node m) ≡ true))
 
 abbrev pub AllReached : Layout → ℕ → Node → Type 0
-AllReached l x n = (k c : ℕ) → slice_get (children l.entries n) k ≡ Some c → Reached l x n k c
+AllReached l x n = (k c : ℕ) → slice_get (children l.entries n) k ≡ Some c → Reached l x (role_of_node n k) c
 
 -- A table has these counts, up to 255.
 abbrev pub Tallies : List ℕ → (ℕ → ℕ) → Type 0
@@ -135,13 +132,13 @@ LinksChecked l (Err e) = Refuses (link_questions l) e
 
 -- Stores with these rooms hold all that the sections have.
 abbrev pub FitsIn : Sections → Counts → Type 0
-FitsIn s rooms = (s.nodes.count ≤ rooms.nodes) × (s.entries.count ≤ rooms.entries) × (length s.text.now ≤ rooms.text)
+FitsIn s rooms = (length s.nodes.now ≤ rooms.nodes) × (length s.entries.now ≤ rooms.entries) × (length s.text.now ≤ rooms.text)
 
 -- All questions are answered yes, or the first no is named.
 abbrev pub Checked : List ℕ → Counts → Result Sections Fault → Type 0
 Checked file rooms (Ok s) =
     Versioned file × Sized file × Fits file rooms × AllRecords (layout file) × AllLinks (layout file)
-    × (laid s ≡ layout file) × WellCut s × FitsIn s rooms
+    × (laid s ≡ layout file) × FitsIn s rooms
 Checked file rooms (Err e) = Refuses (load_questions file rooms) e
 
 -- A store is refilled with the nodes of all records, and the three stores with all that the file holds.

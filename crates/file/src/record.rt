@@ -12,4 +12,4 @@ pub struct Record {
 
 mod decode;
 
-pub(crate) use decode::{RECORD, word};
+pub(crate) use decode::{RECORD, WORD, word};

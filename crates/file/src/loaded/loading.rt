@@ -18,7 +18,7 @@ fn check<'a>(file: &'a [u8], rooms: Counts) -> Result<Sections<'a>, Fault>
         return Err(Fault::StoresTooSmall);
     }
     let mut table = [0; MAX_NODES];
-    let parents = &mut table[0..sections.nodes.count];
+    let parents = &mut table[0..sections.nodes.len()];
     let wrong = sections.check_records(parents)?;
     sections.check_links(parents, wrong)?;
     Ok(sections)

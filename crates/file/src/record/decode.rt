@@ -8,7 +8,9 @@ ghost use Rattle.file.specs.Format.{word, record_at, record_of, flag_of_unary, f
 use super::Record;
 use tree::{BinaryOperator, FirstChild, ListRun, Node, TextRun, UnaryOperator};
 
-// The bytes of a record.
+// The bytes of a word, and of a record.
+pub const WORD: usize = 4;
+
 pub const RECORD: usize = 20;
 
 // The word of four bytes from `at` on, the lowest first.
@@ -55,20 +57,18 @@ fn first_child(flag: u8) -> Option<FirstChild>
 }
 
 impl Record {
-    // Record x of a section.
-    pub(crate) fn read(rows: &[u8], x: usize) -> Record
-        requires { 20 * x + 20 ≤ length rows.now }
-        ensures { result ≡ record_at rows.now x }
+    // Reads a record.
+    pub(crate) fn read(bytes: &[u8; RECORD]) -> Record
+        ensures { result ≡ record_at bytes.now 0 }
     {
-        let at = RECORD * x;
         Record {
-            kind: rows[at],
-            flag: rows[at + 1],
-            zeros: u16::from_le_bytes([rows[at + 2], rows[at + 3]]),
-            a: word(rows, at + 4),
-            b: word(rows, at + 8),
-            c: word(rows, at + 12),
-            d: word(rows, at + 16),
+            kind: bytes[0],
+            flag: bytes[1],
+            zeros: u16::from_le_bytes([bytes[2], bytes[3]]),
+            a: word(bytes, 4),
+            b: word(bytes, 8),
+            c: word(bytes, 12),
+            d: word(bytes, 16),
         }
     }
 

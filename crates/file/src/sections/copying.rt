@@ -4,10 +4,10 @@ ghost use Rattle.store.specs.Held.{room, Refilled};
 ghost use Rattle.store.specs.Stores.{rooms_of};
 ghost use Rattle.tree.specs.declared.node.Node.{Node};
 ghost use Rattle.file.specs.Lawful.{Contents};
-ghost use Rattle.file.specs.Steps.{laid, WellCut, AllRecords, FitsIn, CopiesNodes, CopiesTo};
+ghost use Rattle.file.specs.Steps.{laid, AllRecords, FitsIn, CopiesNodes, CopiesTo};
 
 use super::Sections;
-use crate::record::word;
+use crate::record::{Record, word};
 use store::{Counts, Store, Stores};
 use tree::Node;
 
@@ -16,21 +16,20 @@ impl<'a> Sections<'a> {
     pub(crate) fn fits(&self, rooms: Counts) -> bool
         ensures { MatchBool result (FitsIn self.now rooms) (FitsIn self.now rooms → ⊥) }
     {
-        self.nodes.count <= rooms.nodes
-            && self.entries.count <= rooms.entries
+        self.nodes.len() <= rooms.nodes
+            && self.entries.len() <= rooms.entries
             && self.text.len() <= rooms.text
     }
 
     // Puts the nodes into a store, in the place of what it held.
     fn copy_nodes(&self, nodes: &mut Store<'_, Node>)
-        requires cut { WellCut self.now }
         requires records { AllRecords (laid self.now) }
-        requires space { self.now.nodes.count ≤ room nodes.old }
+        requires space { length self.now.nodes.now ≤ room nodes.old }
         ensures { CopiesNodes (laid self.now) nodes.old nodes.new }
     {
         nodes.clear();
-        for x in 0..self.nodes.count {
-            if let Some(node) = self.node(x) {
+        for record in self.nodes {
+            if let Some(node) = Record::read(record).node() {
                 let _ = nodes.append(&[node]);
             }
         }
@@ -38,13 +37,12 @@ impl<'a> Sections<'a> {
 
     // Puts the entries into a store, in the place of what it held.
     fn copy_entries(&self, entries: &mut Store<'_, u32>)
-        requires cut { WellCut self.now }
-        requires space { self.now.entries.count ≤ room entries.old }
+        requires space { length self.now.entries.now ≤ room entries.old }
         ensures { Refilled entries.old (laid self.now).entries entries.new }
     {
         entries.clear();
-        for i in 0..self.entries.count {
-            let _ = entries.append(&[word(self.entries.bytes, 4 * i)]);
+        for entry in self.entries {
+            let _ = entries.append(&[word(entry, 0)]);
         }
     }
 
@@ -59,7 +57,6 @@ impl<'a> Sections<'a> {
 
     // Puts all into the stores, in the place of what they held.
     pub(crate) fn copy_to(&self, stores: &mut Stores<'_>)
-        requires cut { WellCut self.now }
         requires records { AllRecords (laid self.now) }
         requires space { FitsIn self.now (rooms_of stores.old) }
         ensures { CopiesTo (laid self.now) stores.old stores.new }

@@ -3,7 +3,7 @@ ghost use Rattle.std.specs.Prelude.{◌≡◌, ◌+◌, ◌*◌, ◌^◌, ◌<�
 ghost use Rattle.file.specs.Layout.{Sized};
 ghost use Rattle.file.specs.Steps.{header_of, place_at, InLimits, InPlace, ReadsHeader, CutsInto};
 
-use super::{Header, Place, Section, Sections};
+use super::{Header, Place, Sections};
 use crate::record::{RECORD, word};
 use base::Fault;
 
@@ -82,19 +82,13 @@ impl<'a> Sections<'a> {
         if !header.is_in_limits() || !header.is_in_place(file.len()) {
             return Err(Fault::BadSizes);
         }
-        let entries = header.entries.offset;
-        let text = header.text.offset;
+        let (nodes, _) = file[header.nodes.offset..header.entries.offset].as_chunks();
+        let (entries, _) = file[header.entries.offset..header.text.offset].as_chunks();
         Ok(Sections {
             root: header.root,
-            nodes: Section {
-                count: header.nodes.count,
-                bytes: &file[HEADER..entries],
-            },
-            entries: Section {
-                count: header.entries.count,
-                bytes: &file[entries..text],
-            },
-            text: &file[text..],
+            nodes,
+            entries,
+            text: &file[header.text.offset..],
         })
     }
 }

@@ -4,13 +4,13 @@ ghost use Rattle.std.specs.List.{slice_get};
 ghost use Rattle.tree.specs.Heap.{Held, children};
 ghost use Rattle.tree.specs.Laws.{count};
 ghost use Rattle.tree.specs.Tree.{same};
-ghost use Rattle.file.specs.Lawful.{LawfulRoot, LawfulNode, Contents};
-ghost use Rattle.file.specs.Steps.{laid, WellCut, RecordsTo, AllRecords, Reached, AllReached, Tallies, Lowest, Right, CountsParents, LinksChecked};
+ghost use Rattle.file.specs.Lawful.{LawfulRoot, Contents};
+ghost use Rattle.file.specs.Steps.{laid, AllRecords, Reached, AllReached, Tallies, Lowest, Right, CountsParents, LinksChecked};
 
 use super::Sections;
 use crate::record::word;
 use base::Fault;
-use tree::{Child, Node, Sort};
+use tree::{Child, Node, Role, Sort};
 
 // Counts one parent more for a node, up to 255.
 fn tally(parents: &mut [u8], child: u32)
@@ -49,42 +49,27 @@ fn lowest_wrong(parents: &[u8], wrong: Option<usize>) -> Option<usize>
 impl<'a> Sections<'a> {
     // The number of the node's child k.
     fn child(&self, node: Node, k: usize) -> Option<u32>
-        requires cut { WellCut self.now }
-        requires lawful { LawfulNode (laid self.now).entries (laid self.now).text node }
         ensures { result ≡ slice_get (children (laid self.now).entries node) k }
     {
-        let Some(child) = node.child(k) else {
-            return None;
-        };
-        match child {
+        match node.child(k)? {
             Child::Link(number) => Some(number),
-            Child::Entry(i) => Some(word(self.entries.bytes, 4 * i)),
+            Child::Entry(i) => Some(word(self.entries.get(i)?, 0)),
         }
     }
 
-    // Whether the node x may have this child k: one with a lower number, that may stand there.
-    fn reaches(&self, x: usize, node: Node, k: usize, child: u32) -> bool
-        requires cut { WellCut self.now }
-        requires low { x ≤ self.now.nodes.count }
-        requires records { RecordsTo (laid self.now) x }
-        ensures { MatchBool result (Reached (laid self.now) x node k child) (Reached (laid self.now) x node k child → ⊥) }
+    // Whether the child of the node x may stand in this role: it has a lower number, and is of a sort that may.
+    fn reaches(&self, x: usize, role: Role, child: u32) -> bool
+        ensures { MatchBool result (Reached (laid self.now) x role child) (Reached (laid self.now) x role child → ⊥) }
     {
         let child = child as usize;
-        if child >= x {
-            return false;
-        }
-        match self.node(child) {
-            Some(target) => node.role(k).admits(target.sort()),
-            None => false,
-        }
+        child < x
+            && self
+                .node(child)
+                .is_some_and(|node| role.admits(node.sort()))
     }
 
     // Counts the node x as a parent of each of its children, and answers whether it may have them all.
     pub(crate) fn follow(&self, x: usize, node: Node, parents: &mut [u8]) -> bool
-        requires cut { WellCut self.now }
-        requires low { x ≤ self.now.nodes.count }
-        requires records { RecordsTo (laid self.now) x }
-        requires lawful { LawfulNode (laid self.now).entries (laid self.now).text node }
         ensures reached { MatchBool result (AllReached (laid self.now) x node) (AllReached (laid self.now) x node → ⊥) }
         ensures counted { (f : ℕ → ℕ) → Tallies parents.old f → Tallies parents.new (λ y. f y + count y (children (laid self.now).entries node)) }
     {
@@ -92,9 +77,7 @@ impl<'a> Sections<'a> {
         for k in 0..node.child_count() {
             if let Some(child) = self.child(node, k) {
                 tally(parents, child);
-                if !self.reaches(x, node, k, child) {
-                    all = false;
-                }
+                all &= self.reaches(x, node.role(k), child);
             }
         }
         all
@@ -102,30 +85,25 @@ impl<'a> Sections<'a> {
 
     // Whether the root is the last node, and an expression.
     fn has_root(&self) -> bool
-        requires cut { WellCut self.now }
         requires records { AllRecords (laid self.now) }
         ensures { MatchBool result (LawfulRoot (laid self.now)) (LawfulRoot (laid self.now) → ⊥) }
     {
-        let last = self.nodes.count - 1;
-        if self.root as usize != last {
-            return false;
-        }
-        match self.node(last) {
-            Some(node) => matches!(node.sort(), Sort::IsExpression),
-            None => false,
-        }
+        let root = self.root as usize;
+        root + 1 == self.nodes.len()
+            && self
+                .node(root)
+                .is_some_and(|node| matches!(node.sort(), Sort::IsExpression))
     }
 
     // Asks whether the root is lawful, and then of each node whether its links and its number of parents are.
     pub(crate) fn check_links(&self, parents: &[u8], wrong: Option<usize>) -> Result<(), Fault>
-        requires cut { WellCut self.now }
         requires records { AllRecords (laid self.now) }
-        requires long { length parents.now ≡ self.now.nodes.count }
-        requires counted { (h : Held) → Contents (laid self.now) h → CountsParents h self.now.nodes.count parents.now wrong }
+        requires long { length parents.now ≡ length self.now.nodes.now }
+        requires counted { (h : Held) → Contents (laid self.now) h → CountsParents h (length self.now.nodes.now) parents.now wrong }
         ensures { LinksChecked (laid self.now) result }
     {
         if !self.has_root() {
-            return Err(Fault::BadLink((self.nodes.count - 1) as u32));
+            return Err(Fault::BadLink((self.nodes.len() - 1) as u32));
         }
         match lowest_wrong(parents, wrong) {
             Some(x) => Err(Fault::BadLink(x as u32)),

@@ -7,7 +7,7 @@ ghost use Rattle.tree.specs.Lawful.{Finite};
 ghost use Rattle.tree.specs.declared.node.Node.{Node};
 ghost use Rattle.file.specs.Format.{record_at, record_of};
 ghost use Rattle.file.specs.Lawful.{LawfulNode};
-ghost use Rattle.file.specs.Steps.{laid, WellCut, Begins, TextIn, CookedIn, NodeChecked, RecordsChecked};
+ghost use Rattle.file.specs.Steps.{laid, NodeAt, Begins, TextIn, CookedIn, NodeChecked, RecordsChecked};
 
 use super::Sections;
 use crate::record::Record;
@@ -34,19 +34,18 @@ fn may_begin(first: FirstChild, children: u32) -> bool
 }
 
 impl<'a> Sections<'a> {
-    // The node of record x.
+    // The node of record x, where there is one.
     pub(crate) fn node(&self, x: usize) -> Option<Node>
-        requires { (WellCut self.now) × (x < self.now.nodes.count) }
-        ensures { MatchOption result ((n : Node) → record_of n ≢ record_at (laid self.now).rows x) (λ n. record_of n ≡ record_at (laid self.now).rows x) }
+        ensures { NodeAt (laid self.now) x result }
     {
-        Record::read(self.nodes.bytes, x).node()
+        Record::read(self.nodes.get(x)?).node()
     }
 
     // Whether the list lies within the entries.
     fn has_list(&self, list: ListRun) -> bool
         ensures { result ≡ within (laid self.now).entries list.start list.len }
     {
-        list.start as usize + list.len as usize <= self.entries.count
+        list.start as usize + list.len as usize <= self.entries.len()
     }
 
     // Whether the text lies within its section, and is lawful.
@@ -99,31 +98,23 @@ impl<'a> Sections<'a> {
         }
     }
 
-    // The node of record x, which has to be lawful on its own.
-    fn lawful_node(&self, x: usize) -> Result<Node, Fault>
-        requires cut { WellCut self.now }
-        requires low { x < self.now.nodes.count }
+    // The node of record x, where that is lawful on its own.
+    fn lawful_node(&self, x: usize) -> Option<Node>
         ensures { NodeChecked (laid self.now) x result }
     {
-        let Some(node) = self.node(x) else {
-            return Err(Fault::BadRecord(x as u32));
-        };
-        if !self.is_lawful(node) {
-            return Err(Fault::BadRecord(x as u32));
-        }
-        Ok(node)
+        let node = self.node(x)?;
+        self.is_lawful(node).then_some(node)
     }
 
     // Asks of each record whether it is that of a node which is lawful on its own. It also counts the parents of each
     // node, in a table of zeros, and answers the lowest node with a wrong link.
     pub(crate) fn check_records(&self, parents: &mut [u8]) -> Result<Option<usize>, Fault>
-        requires cut { WellCut self.now }
-        requires zeros { (y : ℕ) → slice_index parents.old y ≡ 0 }
+        requires { (y : ℕ) → slice_index parents.old y ≡ 0 }
         ensures { RecordsChecked (laid self.now) parents.new result }
     {
         let mut wrong = None;
-        for x in 0..self.nodes.count {
-            let node = self.lawful_node(x)?;
+        for x in 0..self.nodes.len() {
+            let node = self.lawful_node(x).ok_or(Fault::BadRecord(x as u32))?;
             if !self.follow(x, node, parents) {
                 wrong = wrong.or(Some(x));
             }

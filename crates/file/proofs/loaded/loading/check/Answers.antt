@@ -1,4 +1,4 @@
-use Rattle.std.proofs.Common.{◌-◌}
+use Rattle.std.proofs.Common.{◌-◌, length}
 use Rattle.std.proofs.lemmas.Result.{err_from_is_err_and}
 use Rattle.file.proofs.Answering.{room_refused, records_refused, links_refused, all_checked}
 use Rattle.file.proofs.Tallied.{table_zeros}
@@ -8,7 +8,7 @@ pub returns-then-not-fits : goal.returns-then-not-fits
 returns-then-not-fits c = room_refused c.args.file.now c.args.rooms c.in_ok-sections.sections c.in_ok-sections.ensures c.if-not-fits.ensures
 
 pub check_records-requires : goal.check_records-requires
-check_records-requires c = record { cut = c.in_ok-sections.ensures.3; zeros = table_zeros (c.in_ok-sections.sections.nodes.count - 0) 4096 }
+check_records-requires c = table_zeros (length c.in_ok-sections.sections.nodes.now - 0) 4096
 
 pub returns-in_err-wrong : goal.returns-in_err-wrong
 returns-in_err-wrong c =

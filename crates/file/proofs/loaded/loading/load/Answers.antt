@@ -2,7 +2,7 @@ use Rattle.std.proofs.Common.{Ok, refl, subst}
 use Rattle.base.specs.Questions.{Refuses}
 use Rattle.file.specs.Lawful.{load_questions}
 use Rattle.file.specs.Steps.{Checked}
-use Rattle.file.proofs.Answering.{copy_cut, copy_records, copy_space, loads}
+use Rattle.file.proofs.Answering.{copy_records, copy_space, loads}
 use Rattle.file.proofs.loaded.loading.load.Goals as goal
 
 pub copy_to-requires : goal.copy_to-requires
@@ -11,7 +11,7 @@ copy_to-requires c =
     let old = c.args.stores in
     let s = c.in-Ok.sections in
     let k = subst (λ rooms. Checked file rooms (Ok s)) c.rooms.ensures c.in-Ok.ensures in
-    record { cut = copy_cut file old old s k; records = copy_records file old old s k; space = copy_space file old old s k }
+    record { records = copy_records file old old s k; space = copy_space file old old s k }
 
 pub returns-in-Ok : goal.returns-in-Ok
 returns-in-Ok c =

@@ -1,26 +1,23 @@
-use Rattle.std.proofs.Common.{◌≡◌, ◌+◌, sym, ◌∙◌, subst, arith, below_more}
+use Rattle.std.proofs.Common.{◌≡◌, ◌+◌, length, sym, ◌∙◌, subst, arith, below_more}
 use Rattle.std.proofs.lemmas.Result.{err_from_is_err_and}
-use Rattle.base.specs.Questions.{Refuses}
-use Rattle.file.specs.Lawful.{record_questions}
 use Rattle.file.specs.Steps.{laid, CountsParents}
-use Rattle.file.proofs.Asked.{record_refused}
+use Rattle.file.proofs.Asked.{node_found, node_refused}
 use Rattle.file.proofs.Parents.{parents_more, parents_wrong}
 use Rattle.file.proofs.sections.Sections.check_records.Goals as goal
 use Rattle.file.proofs.sections.Sections.check_records.Goals.{then-not-follow, else-not-follow}
 
 pub returns-in_err-node : goal.returns-in_err-node
 returns-in_err-node c =
-    let l = laid c.args.self.now in
     let p = err_from_is_err_and c.from_residual.result c.from_residual.ensures.1 in
-    let bad = c.in_err-node.ensures in
-    rw (p.1, p.2) (subst (Refuses (record_questions l)) (sym bad.0) (record_refused l c.loop-x.x c.loop-x-test.true c.loop-x.invariant.0 bad.1))
+    rw (p.1, p.2)
+    (node_refused (laid c.args.self.now) c.loop-x.x c.lawful_node.result c.in_err-node.field-0.0 c.loop-x-test.true c.loop-x.invariant.0 c.lawful_node.ensures c.in_err-node.ensures.value)
 
 pub loop-x-preserved : goal.loop-x-preserved
 loop-x-preserved c =
     let l = laid c.args.self.now in
     let x = c.loop-x.x in
     let n = c.in_ok-node.node in
-    let ok = c.in_ok-node.ensures in
+    let ok = node_found l x c.lawful_node.result n c.lawful_node.ensures c.in_ok-node.ensures.ok_part in
     let old = c.loop-x.parents in
     let o = c.loop-x.wrong in
     let below = c.loop-x.invariant.0 in
@@ -38,7 +35,7 @@ loop-x-preserved c =
 
 pub returns : goal.returns
 returns c =
-    let all : c.loop-x.x ≡ c.args.self.now.nodes.count = omega (arith, c.loop-x-test.false, c.loop-x.auto.x-end) in (
+    let all : c.loop-x.x ≡ length c.args.self.now.nodes.now = omega (arith, c.loop-x-test.false, c.loop-x.auto.x-end) in (
       λ x lt. c.loop-x.invariant.0 x (omega arith),
       λ h cs. subst (λ n. CountsParents h n c.loop-x.parents c.loop-x.wrong) all (c.loop-x.invariant.1 h cs),
     )

@@ -1,8 +1,19 @@
-use Rattle.std.proofs.Common.{length, ap, arith}
-use Rattle.file.proofs.Copied.{words_step}
+use Rattle.std.proofs.Common.{length, Some, ap, ◌∙◌, sym, arith}
+use Rattle.std.proofs.lemmas.Option.{slice_get-map, slice_get-get_or}
+use Rattle.std.proofs.lemmas.List.{length-map}
+use Rattle.std.specs.Option.{option_map}
+use Rattle.file.specs.Format.{word}
+use Rattle.file.specs.Steps.{laid}
+use Rattle.file.proofs.Copied.{next_item}
 use Rattle.file.proofs.sections.Sections.copy_entries.Goals as goal
 
-pub loop-i-preserved : goal.loop-i-preserved
-loop-i-preserved c =
-    words_step c.args.self.now.entries.bytes.now c.loop-i.i c.word.result c.clear.new.self c.loop-i.entries c.append.new.self c.append.result
-    c.loop-i.invariant c.word.ensures c.append.ensures (omega (arith, ap length c.clear.ensures.memory))
+pub loop-entry-preserved : goal.loop-entry-preserved
+loop-entry-preserved c =
+    let s = c.args.self.now in
+    let i = c.loop-entry.entry-index in
+    let w = c.word.result in
+    next_item (laid s).entries i w c.clear.new.self c.loop-entry.entries c.append.new.self c.append.result c.loop-entry.invariant
+    (slice_get-map (λ entry. word entry 0) s.entries.now i
+    ∙ ap (option_map (λ entry. word entry 0)) (slice_get-get_or s.entries.now i _ c.loop-entry-test.true)
+    ∙ ap (λ v. Some v) (sym c.word.ensures))
+    c.append.ensures (omega (arith, length-map s.entries.now (λ entry. word entry 0), ap length c.clear.ensures.memory))

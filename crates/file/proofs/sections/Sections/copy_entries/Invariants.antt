@@ -1,6 +1,7 @@
+use Rattle.std.proofs.Common.{take}
 use Rattle.store.specs.Held.{Refilled}
-use Rattle.file.specs.Format.{words}
+use Rattle.file.specs.Steps.{laid}
 use Rattle.file.proofs.sections.Sections.copy_entries.Given as goal
 
-abbrev pub invariant-loop-i : goal.invariant-loop-i
-invariant-loop-i l = Refilled l.initial.entries (words l.self.entries.bytes.now 0 l.i) l.entries
+abbrev pub invariant-loop-entry : goal.invariant-loop-entry
+invariant-loop-entry l = Refilled l.initial.entries (take l.entry-index (laid l.self).entries) l.entries

@@ -1,17 +1,38 @@
-use Rattle.std.proofs.Common.{◌+◌, length, sym, ap, subst, arith}
-use Rattle.file.proofs.Copied.{NodesUpTo, nodes_step}
+use Rattle.std.proofs.Common.{◌+◌, Some, map, length, get_or, drop, ◌++◌, [], sym, ap, ◌∙◌, subst, arith, take_all}
+use Rattle.std.proofs.lemmas.Option.{slice_get-map, slice_get-get_or}
+use Rattle.std.proofs.lemmas.List.{length-map}
+use Rattle.std.specs.Option.{option_map}
+use Rattle.file.specs.Format.{record_at}
+use Rattle.file.proofs.Chunks.{record_of_array, records_of_arrays}
+use Rattle.file.proofs.Copied.{NodesUpTo, next_node}
 use Rattle.file.proofs.sections.Sections.copy_nodes.Goals as goal
 use Rattle.file.proofs.sections.Sections.copy_nodes.Goals.{in-Some, in_default}
 
-pub loop-x-preserved : goal.loop-x-preserved
-loop-x-preserved c =
-    let rows = c.args.self.now.nodes.bytes.now in
+pub loop-record-preserved : goal.loop-record-preserved
+loop-record-preserved c =
+    let s = c.args.self.now in
+    let x = c.loop-record.record-index in
+    let records = map (λ bytes. record_at bytes 0) s.nodes.now in
     let old = c.clear.new.self in
-    let x = c.loop-x.x in
+    let at = slice_get-get_or s.nodes.now x [] c.loop-record-test.true in
     elim c.match-node.branch [
       | in-Some w ↦
-          subst (NodesUpTo rows (x + 1) old) (sym w.nodes-is)
-          (nodes_step rows x w.in-Some.node old c.loop-x.nodes w.append.new.self w.append.result c.loop-x.invariant w.in-Some.ensures w.append.ensures
-          (omega (arith, ap length c.clear.ensures.memory)))
-      | in_default w ↦ let r = c.requires.records x c.loop-x-test.true in absurd (w.in_default.ensures r.0 r.1)
+          subst (NodesUpTo records (x + 1) old) (sym w.nodes-is)
+          (next_node records x w.in-Some.node old c.loop-record.nodes w.append.new.self w.append.result c.loop-record.invariant
+          (slice_get-map (λ bytes. record_at bytes 0) s.nodes.now x ∙ ap (option_map (λ bytes. record_at bytes 0)) at ∙ ap (λ r. Some r) (sym c.read.ensures ∙ sym w.in-Some.ensures))
+          w.append.ensures (omega (arith, length-map s.nodes.now (λ bytes. record_at bytes 0), ap length c.clear.ensures.memory)))
+      | in_default w ↦
+          let r = c.requires.records x c.loop-record-test.true in
+          absurd (w.in_default.ensures r.0 (r.1 ∙ record_of_array s.nodes.now s.whole_records x (get_or s.nodes.now x []) at ∙ sym c.read.ensures))
     ]
+
+pub returns : goal.returns
+returns c =
+    let s = c.args.self.now in
+    let ns = c.loop-record.invariant in (
+      ns.0,
+      (ns.1.0, ns.1.1 ∙ ap (λ m. ns.0 ++ drop (length ns.0) m) c.clear.ensures.memory),
+      ns.2
+          ∙ take_all c.loop-record.record-index (map (λ bytes. record_at bytes 0) s.nodes.now) (omega (arith, length-map s.nodes.now (λ bytes. record_at bytes 0), c.loop-record-test.false))
+          ∙ sym (records_of_arrays s.nodes.now s.whole_records),
+    )

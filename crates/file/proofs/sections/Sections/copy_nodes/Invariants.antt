@@ -1,5 +1,7 @@
+use Rattle.std.proofs.Common.{map}
+use Rattle.file.specs.Format.{record_at}
 use Rattle.file.proofs.Copied.{NodesUpTo}
 use Rattle.file.proofs.sections.Sections.copy_nodes.Given as goal
 
-abbrev pub invariant-loop-x : goal.invariant-loop-x
-invariant-loop-x l = NodesUpTo l.self.nodes.bytes.now l.x l.initial.nodes l.nodes
+abbrev pub invariant-loop-record : goal.invariant-loop-record
+invariant-loop-record l = NodesUpTo (map (λ bytes. record_at bytes 0) l.self.nodes.now) l.record-index l.initial.nodes l.nodes
