@@ -12,12 +12,14 @@ use Rattle.store.specs.Held.{held, lent, Refilled}
 use Rattle.store.specs.Stores.{held_of, rooms_of}
 use Rattle.tree.proofs.Cuts.{length_cut}
 use Rattle.file.specs.declared.sections.Sections.{Sections}
+use Rattle.file.specs.declared.records.Records.{Records}
 use Rattle.file.specs.declared.loaded.Loaded.{Loaded}
 use Rattle.file.specs.Calls.{loaded_stores, loaded_root, Holds, DenotesPayoff, Loads}
 use Rattle.file.specs.Format.{word, record_of}
 use Rattle.file.specs.Layout.{layout, root, node_count, entry_count, text_count, text_offset}
 use Rattle.file.specs.Lawful.{Contents, LawfulFile, Fits, LawfulRecord, size_questions, record_questions, link_questions, load_questions}
-use Rattle.file.specs.Steps.{laid, CutsInto, FitsIn, AllRecords, AllLinks, Checked, CopiesTo}
+use Rattle.file.specs.Found.{laid, AllRecords}
+use Rattle.file.specs.Steps.{CutsInto, FitsIn, AllLinks, Checked, CopiesTo}
 use Rattle.file.proofs.Counted.{length_words}
 use Rattle.file.proofs.Granting.{held_lawful}
 use Rattle.file.proofs.TreeOf.{payoff_of}
@@ -60,27 +62,26 @@ module _ (file : List ℕ) (rooms : Counts) (s : Sections) (k : CutsInto file (O
   records_refused f e r =
       later f e (refuses_first (record_questions (layout file)) (link_questions (layout file)) e (subst (λ l. Refuses (record_questions l) e) same r))
 
-  pub links_refused : FitsIn s rooms → AllRecords (laid s) → (e : Fault) → Refuses (link_questions (laid s)) e → Refuses (load_questions file rooms) e
-  links_refused f all e r =
+  pub links_refused : FitsIn s rooms → AllRecords (laid s) → (found : Records) → found.sections ≡ s → (e : Fault) → Refuses (link_questions (laid found.sections)) e → Refuses (load_questions file rooms) e
+  links_refused f all found is e r =
       let there : AllRecords (layout file) = subst AllRecords same all in
       later f e
       (refuses_later (record_questions (layout file)) (link_questions (layout file)) e
       (granted_each 4 (LawfulRecord (layout file)) 0 (node_count file) (λ y a b. there y (omega arith)))
-      (subst (λ l. Refuses (link_questions l) e) same r))
+      (subst (λ l. Refuses (link_questions l) e) (ap laid is ∙ same) r))
 
-  pub all_checked : FitsIn s rooms → AllRecords (laid s) → AllLinks (laid s) → Checked file rooms (Ok s)
-  all_checked f all links = (k.0, k.1, fits_file f, subst AllRecords same all, subst AllLinks same links, same, f)
+  pub all_checked : FitsIn s rooms → AllRecords (laid s) → (r : Records) → r.sections ≡ s → AllLinks (laid r.sections) → Checked file rooms (Ok r)
+  all_checked f all r is links =
+      let laid_same : laid r.sections ≡ layout file = ap laid is ∙ same in
+      (k.0, k.1, fits_file f, subst AllRecords same all, subst AllLinks laid_same links, laid_same, subst (λ z. FitsIn z rooms) (sym is) f)
 
 -- ---- what is loaded
 
-module _ (file : List ℕ) (old new : Stores) (s : Sections) (k : Checked file (rooms_of old) (Ok s)) where
-  pub copy_records : AllRecords (laid s)
-  copy_records = subst AllRecords (sym k.5) k.3
-
-  pub copy_space : FitsIn s (rooms_of old)
+module _ (file : List ℕ) (old new : Stores) (r : Records) (k : Checked file (rooms_of old) (Ok r)) where
+  pub copy_space : FitsIn r.sections (rooms_of old)
   copy_space = k.6
 
-  module _ (c : CopiesTo (laid s) old new) where
+  module _ (c : CopiesTo (laid r.sections) old new) where
     contained : Contents (layout file) (held_of new)
     contained = subst (λ l. Contents l (held_of new)) k.5 (record { recorded = ap (map record_of) c.0.1.0 ∙ c.0.2; listed = c.1.0; texted = c.2.0 })
 
@@ -91,7 +92,7 @@ module _ (file : List ℕ) (old new : Stores) (s : Sections) (k : Checked file (
     refilled : {T : Type 0} (a : Store T) (xs : List T) (b : Store T) → Refilled a xs b → Refilled a (held b) b
     refilled a xs b r = (refl, r.1 ∙ ap (λ ys. ys ++ drop (length ys) (lent a)) (sym r.0))
 
-    pub loads : (d : Loaded) → loaded_stores d ≡ new → loaded_root d ≡ s.root → Loads file old (Ok d)
+    pub loads : (d : Loaded) → loaded_stores d ≡ new → loaded_root d ≡ r.sections.root → Loads file old (Ok d)
     loads d is at =
         let top : loaded_root d ≡ root file = at ∙ ap (λ l. l.top) k.5 in
         let t = payoff_of (held_of new) (root file) lawful.lawful in (
@@ -101,8 +102,8 @@ module _ (file : List ℕ) (old new : Stores) (s : Sections) (k : Checked file (
           subst (λ n. Holds old (held_of n) n) (sym is)
               (record {
                 nodes_held = refilled old.nodes c.0.0 new.nodes c.0.1;
-                entries_held = refilled old.entries (laid s).entries new.entries c.1;
-                text_held = refilled old.text (laid s).text new.text c.2;
+                entries_held = refilled old.entries (laid r.sections).entries new.entries c.1;
+                text_held = refilled old.text (laid r.sections).text new.text c.2;
               }),
-          (t.0, subst (λ r. DenotesPayoff (held_of (loaded_stores d)) r t.0) (sym top) (subst (λ n. DenotesPayoff (held_of n) (root file) t.0) (sym is) t.1)),
+          (t.0, subst (λ m. DenotesPayoff (held_of (loaded_stores d)) m t.0) (sym top) (subst (λ n. DenotesPayoff (held_of n) (root file) t.0) (sym is) t.1)),
         )

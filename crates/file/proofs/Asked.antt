@@ -11,7 +11,8 @@ use Rattle.file.specs.Format.{record_at, record_of}
 use Rattle.file.specs.Layout.{Layout}
 use Rattle.file.proofs.OneNode.{one_node}
 use Rattle.file.specs.Lawful.{LawfulNode, LawfulRecord, record_questions}
-use Rattle.file.specs.Steps.{RecordsTo, NodeAt, NodeChecked}
+use Rattle.file.specs.Found.{RecordsTo}
+use Rattle.file.specs.Steps.{NodeAt, NodeChecked}
 
 pub record_refused : (l : Layout) (x : ℕ) → x < l.count → RecordsTo l x → (LawfulRecord l x → ⊥) → Refuses (record_questions l) (BadRecord x)
 record_refused l x lt low not = refuses_each 4 (LawfulRecord l) (BadRecord x) 0 l.count x refl (omega arith) (omega arith) (λ y a b. low y b) not

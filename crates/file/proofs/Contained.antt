@@ -1,16 +1,16 @@
 -- What a file holds, given that each of its records is lawful.
-use Rattle.std.proofs.Common.{◌≡◌, ℕ, zero, suc, ◌+◌, ◌<◌, ◌≤◌, List, [], ◌∷◌, map, length, Some, None, Option, sym, refl, ap, ◌∙◌, arith}
+use Rattle.std.proofs.Common.{◌≡◌, ℕ, zero, suc, ◌+◌, ◌<◌, ◌≤◌, true, List, [], ◌∷◌, map, length, Some, None, Option, sym, refl, ap, ◌∙◌, arith}
 use Rattle.std.specs.List.{slice_get}
 use Rattle.std.proofs.lemmas.List.{length-map}
 use Rattle.std.specs.Option.{option_map}
 use Rattle.tree.specs.declared.node.Node.{Node}
-use Rattle.tree.specs.Heap.{Held, look, read, own, children}
+use Rattle.tree.specs.Heap.{Held, look, read, own, children, inside}
 use Rattle.tree.proofs.Records.{read_inside}
 use Rattle.file.specs.declared.record.Record.{Record}
 use Rattle.file.specs.Format.{record_at, records, record_of}
 use Rattle.file.specs.Layout.{Layout}
-use Rattle.file.specs.Lawful.{Contents, LawfulNode, LawfulRecord}
-use Rattle.file.specs.Steps.{AllRecords}
+use Rattle.file.specs.Lawful.{Contents, LawfulRecord}
+use Rattle.file.specs.Found.{AllRecords}
 use Rattle.file.proofs.OneNode.{one_node}
 
 pub nth_records : (rows : List ℕ) (x n k : ℕ) → k < n → slice_get (records rows x n) k ≡ Some (record_at rows (x + k))
@@ -58,13 +58,13 @@ held_there l h x n c lt e = go (slice_get h.nodes x) refl
         f ∙ ap (λ a. Some a) (one_node m n (k ∙ sym e))
 
 -- What is stored at x.
-pub row_there : (l : Layout) (h : Held) (x : ℕ) (n : Node) → Contents l h → x < l.count → record_of n ≡ record_at l.rows x → LawfulNode l.entries l.text n
+pub row_there : (l : Layout) (h : Held) (x : ℕ) (n : Node) → Contents l h → x < l.count → record_of n ≡ record_at l.rows x → inside l.entries l.text n ≡ true
     → look h x ≡ Some (own l.text n, children l.entries n)
 row_there l h x n c lt e ok =
     ap (read h.entries h.text) (held_there l h x n c lt e)
     ∙ ap (λ es. read es h.text (Some n)) c.listed
     ∙ ap (λ bs. read l.entries bs (Some n)) c.texted
-    ∙ read_inside l.entries l.text n ok.0
+    ∙ read_inside l.entries l.text n ok
 
 -- The record of the node that is held at x is record x.
 pub recorded_there : (l : Layout) (h : Held) (x : ℕ) (n : Node) → Contents l h → x < l.count → slice_get h.nodes x ≡ Some n → record_of n ≡ record_at l.rows x

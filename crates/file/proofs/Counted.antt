@@ -12,7 +12,6 @@ use Rattle.tree.specs.Heap.{cut, within}
 use Rattle.tree.proofs.Cuts.{length_cut}
 use Rattle.file.specs.Format.{words}
 use Rattle.file.specs.Lawful.{LawfulNode}
-use Rattle.file.specs.Steps.{Begins}
 
 pub length_words : (bytes : List ℕ) (k n : ℕ) → length (words bytes k n) ≡ n
 length_words bytes k zero = refl
@@ -33,18 +32,18 @@ template_lawful es text n l is t =
     ])
 
 -- What an opaque node owes for its first child does not depend on its mark.
-begins_any : (m : ℕ) (f : FirstChild) (n : ℕ) → LawfulOwn (opaque m f) n ≡ Begins f n
+begins_any : (m : ℕ) (f : FirstChild) (n : ℕ) → LawfulOwn (opaque m f) n ≡ LawfulOwn (opaque 0 f) n
 begins_any m Value n = refl
 begins_any m Reference n = refl
 
-pub opaque_lawful : (es text : List ℕ) (n : Node) (l : Run ℕ) (m : ℕ) (f : FirstChild) (b : Bool) → n ≡ Opaque l m f → within es l.start l.len ≡ true → MatchBool b (Begins f l.len) (Begins f l.len → ⊥)
+pub opaque_lawful : (es text : List ℕ) (n : Node) (l : ListRun) (m : ℕ) (f : FirstChild) (b : Bool) → n ≡ Opaque l m f → within es l.start l.len ≡ true → MatchBool b (LawfulOwn (opaque 0 f) l.len) (LawfulOwn (opaque 0 f) l.len → ⊥)
     → MatchBool b (LawfulNode es text n) (LawfulNode es text n → ⊥)
 opaque_lawful es text n l m f b is t w =
     let len = length_cut es l.start l.len (leb-true (l.start + l.len) (length es) t) in
-    let same : LawfulOwn (opaque m f) (length (cut es l.start l.len)) ≡ Begins f l.len = ap (LawfulOwn (opaque m f)) len ∙ begins_any m f l.len in
+    let same : LawfulOwn (opaque m f) (length (cut es l.start l.len)) ≡ LawfulOwn (opaque 0 f) l.len = ap (LawfulOwn (opaque m f)) len ∙ begins_any m f l.len in
     subst (λ k. MatchBool b (LawfulNode es text k) (LawfulNode es text k → ⊥)) (sym is) (go b w same)
   where
-    go : (a : Bool) → MatchBool a (Begins f l.len) (Begins f l.len → ⊥) → LawfulOwn (opaque m f) (length (cut es l.start l.len)) ≡ Begins f l.len
+    go : (a : Bool) → MatchBool a (LawfulOwn (opaque 0 f) l.len) (LawfulOwn (opaque 0 f) l.len → ⊥) → LawfulOwn (opaque m f) (length (cut es l.start l.len)) ≡ LawfulOwn (opaque 0 f) l.len
         → MatchBool a (LawfulNode es text (Opaque l m f)) (LawfulNode es text (Opaque l m f) → ⊥)
     go true v same = (and_true (within es l.start l.len) t, subst (λ X. X) (sym same) v)
     go false v same = λ p. v (subst (λ X. X) same p.1)

@@ -3,7 +3,7 @@ use Rattle.std.proofs.Common.{◌≡◌, ℕ, ◌-◌, ◌*◌, ◌/◌, List, m
 use Rattle.std.specs.Simd.{first_chunks}
 use Rattle.tree.specs.Heap.{cut}
 use Rattle.tree.proofs.Cuts.{length_cut}
-use Rattle.file.specs.declared.sections.Header.{Header}
+use Rattle.file.specs.declared.header.Header.{Header}
 use Rattle.file.specs.Arrays.{AllOfLength, bytes_of}
 use Rattle.file.specs.Format.{word, words}
 use Rattle.file.specs.Layout.{Sized, Layout, layout}

@@ -9,8 +9,9 @@ use Rattle.tree.specs.Roles.{role_of_node}
 use Rattle.tree.specs.Laws.{count}
 use Rattle.tree.proofs.Cuts.{nth_low}
 use Rattle.file.specs.Layout.{Layout}
-use Rattle.file.specs.Steps.{Reached, AllReached, Tallies}
+use Rattle.file.specs.Steps.{Reached, AllReached}
 use Rattle.file.proofs.Tallied.{tallied_as, count_more}
+use Rattle.file.specs.Tables.{Tallies}
 
 pub nth_none : {X : Type 0} (xs : List X) (k : ℕ) → slice_get xs k ≡ None → length xs ≤ k
 nth_none [] k e = omega arith

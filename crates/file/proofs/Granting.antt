@@ -10,7 +10,8 @@ use Rattle.tree.proofs.Cuts.{nth_low}
 use Rattle.file.specs.Layout.{Layout, layout}
 use Rattle.file.specs.Lawful.{Contents, LawfulNode, LawfulRecord, LawfulRoot, LawfulLinks, LinkedAt, RootAt, LawfulHeld, LawfulFile, Fits, record_questions, link_questions, load_questions}
 use Rattle.file.specs.Laws.{LawfulExactlyWhereGranted}
-use Rattle.file.specs.Steps.{AllRecords, AllLinks}
+use Rattle.file.specs.Found.{AllRecords}
+use Rattle.file.specs.Steps.{AllLinks}
 use Rattle.file.proofs.Contained.{holding, how_many, held_once, recorded_there}
 use Rattle.file.proofs.Following.{nth_none}
 use Rattle.file.proofs.Linking.{lawful_there}

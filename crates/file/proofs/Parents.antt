@@ -2,20 +2,29 @@
 use Rattle.std.proofs.Common.{◌≡◌, ℕ, suc, ◌+◌, ◌<◌, ◌≤◌, Bool, true, false, cond, eqb, List, length, get_or, Some, None, Option, sym, refl, ap, ◌∙◌, subst, inl, inr, arith}
 use Rattle.std.specs.Option.{option_or}
 use Rattle.std.proofs.lemmas.Bool.{cases_lt}
+use Rattle.std.proofs.lemmas.Grind.{not_there}
+use Rattle.std.proofs.Math.Logic.{∥∥₁_elim}
+use Rattle.std.proofs.Math.Bool.{Bool-set}
+use Rattle.std.proofs.Math.Nat.{ℕ_set}
+use Rattle.std.specs.Coded.{le_prop}
 use Rattle.base.specs.declared.fault.Fault.TheVariants.{BadLink}
 use Rattle.base.specs.Questions.{Refuses}
 use Rattle.base.proofs.Asking.{refuses_each}
 use Rattle.tree.specs.declared.node.Node.{Node}
-use Rattle.tree.specs.Tree.{children_of}
+use Rattle.tree.specs.declared.role.Role.{Role}
+use Rattle.tree.specs.Tree.{Own, Look, children_of}
+use Rattle.tree.specs.Lawful.{AdmitsRow}
 use Rattle.tree.specs.Heap.{Held, look, children}
 use Rattle.tree.specs.Laws.{count, parents}
 use Rattle.file.specs.Format.{record_at, record_of}
 use Rattle.file.specs.Layout.{Layout}
-use Rattle.file.specs.Lawful.{Contents, LawfulNode, LawfulRoot, LawfulLinks, due, link_questions}
-use Rattle.file.specs.Steps.{RecordsTo, AllRecords, AllReached, Tallies, Lowest, LinksAt, CountsParents, Right, AllLinks}
+use Rattle.file.specs.Lawful.{Contents, LawfulNode, LawfulRoot, LawfulLinks, LinkedAt, LinksRow, due, link_questions}
+use Rattle.file.specs.Found.{RecordsTo, AllRecords, LinksAt, CountsParents, LinksCounted}
+use Rattle.file.specs.Steps.{AllReached, AllLinks}
 use Rattle.file.proofs.Contained.{holding, how_many}
 use Rattle.file.proofs.Linking.{node_row, links_found, links_back}
 use Rattle.file.proofs.Tallied.{tallied_as, lowest_kept, lowest_found, lowest_later}
+use Rattle.file.specs.Tables.{Tallies, Lowest, Right}
 
 lowest_wrong : (P : ℕ → Type 0) (n : ℕ) (o : Option ℕ) → Lowest P n o → (P n → ⊥) → Lowest P (n + 1) (option_or o (Some n))
 lowest_wrong P n None low not = lowest_found P n low not
@@ -49,11 +58,25 @@ below_named : (P : ℕ → Type 0) (n x : ℕ) (o : Option ℕ) → Lowest P n o
 below_named P n x None low lt not = low x lt
 below_named P n x (Some w) low lt not = elim (cases_lt x w) [ inl a ↦ low.1 x a | inr b ↦ absurd (not w b refl) ]
 
-module _ (l : Layout) (table : List ℕ) (wrong : Option ℕ) (long : length table ≡ l.count) (found : (h : Held) → Contents l h → CountsParents h l.count table wrong) where
+-- What is asked of links has one proof at most.
+below_prop : (n m : ℕ) → IsProp (n < m)
+below_prop n m = le_prop
+
+admits_prop : (r : Role) (o : Option (Own × List ℕ)) → IsProp (AdmitsRow r o)
+admits_prop r None = hlevel
+admits_prop r (Some p) = hlevel Bool-set
+
+links_prop : (h : Look) (x : ℕ) (o : Option (Own × List ℕ)) → IsProp (LinksRow h x o)
+links_prop h x None = hlevel
+links_prop h x (Some p) = hlevel (admits_prop, below_prop)
+
+linked_prop : (h : Held) (x : ℕ) → IsProp (LinkedAt h x)
+linked_prop h x = hlevel (links_prop, ℕ_set)
+
+module _ (l : Layout) (table : List ℕ) (wrong : Option ℕ) (long : length table ≡ l.count) (counted : ∥ LinksCounted l table wrong ∥₁) where
   -- Where this node and all lower ones are right, its links are lawful.
-  pub links_right : (x : ℕ) → x < l.count → ((y : ℕ) → y ≤ x → Right table wrong y) → LawfulLinks l x
-  links_right x lt right h cs =
-      let w = found h cs in
+  right_at : (x : ℕ) → x < l.count → ((y : ℕ) → y ≤ x → Right table wrong y) → (h : Held) → Contents l h → CountsParents h l.count table wrong → LinkedAt h x
+  right_at x lt right h cs w =
       let here = right x (omega arith) in
       let e = w.0 x (omega arith) in
       let d : get_or table x 0 ≡ due l.count x = here.1 ∙ ap (λ n. due n x) long in
@@ -62,9 +85,12 @@ module _ (l : Layout) (table : List ℕ) (wrong : Option ℕ) (long : length tab
         subst (λ n. parents (look h) n x ≡ due n x) (sym (how_many l h cs)) is_due,
       )
 
+  links_right : (x : ℕ) → x < l.count → ((y : ℕ) → y ≤ x → Right table wrong y) → LawfulLinks l x
+  links_right x lt right h cs = ∥∥₁_elim counted (linked_prop h x) (λ found. right_at x lt right h cs (found h cs))
+
   -- Where it is not, they are not.
-  pub links_wrong : AllRecords l → (x : ℕ) → x < l.count → (Right table wrong x → ⊥) → LawfulLinks l x → ⊥
-  links_wrong all x lt not ok =
+  wrong_at : AllRecords l → LinksCounted l table wrong → (x : ℕ) → x < l.count → (Right table wrong x → ⊥) → LawfulLinks l x → ⊥
+  wrong_at all found x lt not ok =
       let h = holding l all in
       let w = found h.0 h.1 in
       let r = ok h.0 h.1 in
@@ -77,8 +103,11 @@ module _ (l : Layout) (table : List ℕ) (wrong : Option ℕ) (long : length tab
       named P n None low here f = let z : ◌≡◌ {A = ℕ} 0 1 = cc in omega arith
       named P n (Some v) low here f = let g : v ≡ x = cc in low.2 (subst P (sym g) here)
 
+  links_wrong : ∥ AllRecords l ∥₁ → (x : ℕ) → x < l.count → (Right table wrong x → ⊥) → LawfulLinks l x → ⊥
+  links_wrong all x lt not ok = not_there all (λ a. not_there counted (λ found. wrong_at a found x lt not ok))
+
   -- The lowest node that is not right is the one that the questions name.
-  pub link_refused : AllRecords l → LawfulRoot l → (x : ℕ) → Lowest (Right table wrong) (length table) (Some x) → Refuses (link_questions l) (BadLink x)
+  pub link_refused : ∥ AllRecords l ∥₁ → LawfulRoot l → (x : ℕ) → Lowest (Right table wrong) (length table) (Some x) → Refuses (link_questions l) (BadLink x)
   link_refused all top x low =
       let lt : x < l.count = omega (arith, low.0) in
       inr (

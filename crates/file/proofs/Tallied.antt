@@ -1,9 +1,9 @@
 -- Counting parents in a table, and the lowest wrong node.
-use Rattle.std.proofs.Common.{◌≡◌, ℕ, zero, suc, ◌+◌, ◌<◌, min, ◌⊎◌, List, [], ◌∷◌, get_or, take, drop, replicate, Some, None, Option, sym, refl, ap, ◌∙◌, subst, inl, inr, arith}
+use Rattle.std.proofs.Common.{◌≡◌, ℕ, zero, suc, ◌+◌, ◌<◌, min, ◌⊎◌, List, [], ◌∷◌, get_or, take, replicate, Some, None, Option, sym, refl, ap, ◌∙◌, subst, inl, inr, arith}
 use Rattle.std.specs.List.{slice_get}
 use Rattle.tree.specs.Tree.{same}
 use Rattle.tree.specs.Laws.{count}
-use Rattle.file.specs.Steps.{Tallies, Lowest}
+use Rattle.file.specs.Tables.{Tallies, Lowest}
 
 -- Counts that are the same are tallied by the same table.
 pub tallied_as : (table : List ℕ) (f g : ℕ → ℕ) → ((y : ℕ) → f y ≡ g y) → Tallies table f → Tallies table g
@@ -41,17 +41,8 @@ lowest_found P n low not = (omega arith, low, not)
 pub lowest_later : (P : ℕ → Type 0) (n x : ℕ) → Lowest P n (Some x) → Lowest P (n + 1) (Some x)
 lowest_later P n x low = (omega (arith, low.0), low.1, low.2)
 
--- A front of a table of zeros has only zeros.
-zeros : (n y : ℕ) → ◌≡◌ {A = ℕ} (get_or (replicate n 0) y 0) 0
+-- A table of zeros has only zeros.
+pub zeros : (n y : ℕ) → ◌≡◌ {A = ℕ} (get_or (replicate n 0) y 0) 0
 zeros zero y = refl
 zeros (suc n) zero = refl
 zeros (suc n) (suc y) = zeros n y
-
-zeros_front : (n : ℕ) (xs : List ℕ) → ((y : ℕ) → get_or xs y 0 ≡ 0) → (y : ℕ) → get_or (take n xs) y 0 ≡ 0
-zeros_front zero xs all y = refl
-zeros_front (suc n) [] all y = refl
-zeros_front (suc n) (x ∷ xs) all zero = all 0
-zeros_front (suc n) (x ∷ xs) all (suc y) = zeros_front n xs (λ z. all (suc z)) y
-
-pub table_zeros : (n m y : ℕ) → ◌≡◌ {A = ℕ} (get_or (take n (drop 0 (replicate m 0))) y 0) 0
-table_zeros n m y = zeros_front n (replicate m 0) (zeros m) y

@@ -1,7 +1,9 @@
 pub mod Arrays
 pub mod Calls
 pub mod Format
+pub mod Found
 pub mod Lawful
 pub mod Laws
 pub mod Layout
 pub mod Steps
+pub mod Tables

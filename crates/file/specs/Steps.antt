@@ -1,29 +1,27 @@
 -- The steps of loading: the header, the sections, and what is asked of each node.
-use Rattle.std.specs.Prelude.{◌≡◌, ℕ, ◌+◌, ◌*◌, ◌<◌, ◌≤◌, min, true, List, [], ◌∷◌, map, length, Some, None, Ok, Err, Option, Result, ◌≢◌, slice_index}
+use Rattle.std.specs.Prelude.{◌≡◌, ℕ, ◌+◌, ◌*◌, ◌<◌, ◌≤◌, true, List, [], ◌∷◌, map, length, Some, None, Ok, Err, Option, Result, ◌≢◌}
 use Rattle.std.specs.List.{slice_get}
 use Rattle.base.specs.declared.fault.Fault.{Fault}
 use Rattle.base.specs.Questions.{Refuses}
-use Rattle.file.specs.declared.sections.Header.{Header}
-use Rattle.file.specs.declared.sections.Place.{Place}
+use Rattle.file.specs.declared.header.Header.{Header}
+use Rattle.file.specs.declared.header.Place.{Place}
 use Rattle.file.specs.declared.sections.Sections.{Sections}
+use Rattle.file.specs.declared.records.Records.{Records}
 use Rattle.store.specs.declared.store.Store.{Store}
 use Rattle.store.specs.declared.stores.Stores.{Stores}
 use Rattle.store.specs.declared.stores.Counts.{Counts}
 use Rattle.store.specs.Held.{Refilled}
-use Rattle.file.specs.Arrays.{bytes_of}
+use Rattle.file.specs.Found.{laid, AllRecords}
 use Rattle.file.specs.Format.{word, records, record_at, record_of}
 use Rattle.file.specs.Layout.{Versioned, Sized, Layout, layout}
-use Rattle.file.specs.Lawful.{size_questions, record_questions, link_questions, LawfulNode, LawfulRecord, LawfulRoot, LawfulLinks, LinksRow, Contents, due, Fits, load_questions}
+use Rattle.file.specs.Lawful.{size_questions, record_questions, link_questions, LawfulNode, LawfulRecord, LawfulRoot, LawfulLinks, Fits, load_questions}
 use Rattle.text.specs.Stored.{Lawful}
 use Rattle.template.specs.Cooked.{CooksTo}
-use Rattle.tree.specs.declared.node.FirstChild.{FirstChild}
 use Rattle.tree.specs.declared.role.Role.{Role}
 use Rattle.tree.specs.declared.node.TextRun.{TextRun}
-use Rattle.tree.specs.Tree.{opaque}
-use Rattle.tree.specs.Lawful.{LawfulOwn, admits}
+use Rattle.tree.specs.Lawful.{admits}
 use Rattle.tree.specs.declared.node.Node.{Node}
-use Rattle.tree.specs.Heap.{Held, within, text_at, children, look}
-use Rattle.tree.specs.Laws.{parents}
+use Rattle.tree.specs.Heap.{within, text_at, children}
 use Rattle.tree.specs.Roles.{role_of_node, sort_of_node}
 
 abbrev pub place_at : List ℕ → ℕ → Place
@@ -46,24 +44,9 @@ InPlace h len =
     × (h.text.offset ≡ 32 + 20 * h.nodes.count + 4 * h.entries.count)
     × (len ≡ 32 + 20 * h.nodes.count + 4 * h.entries.count + h.text.count)
 
--- The layout that sections show.
-abbrev pub laid : Sections → Layout
-laid s =
-    record {
-      top = s.root;
-      count = length s.nodes.now;
-      rows = bytes_of s.nodes.now;
-      entries = map (λ entry. word entry 0) s.entries.now;
-      text = s.text.now;
-    }
-
 abbrev pub CutsInto : List ℕ → Result Sections Fault → Type 0
 CutsInto file (Ok s) = Versioned file × Sized file × (laid s ≡ layout file)
 CutsInto file (Err e) = Refuses (size_questions file) e
-
--- What an opaque node owes for its first child.
-abbrev pub Begins : FirstChild → ℕ → Type 0
-Begins first n = LawfulOwn (opaque 0 first) n
 
 -- A text that lies within its section and is lawful, and two of which the first cooks to the second.
 abbrev pub TextIn : List ℕ → Run ℕ → Type 0
@@ -73,13 +56,6 @@ abbrev pub CookedIn : List ℕ → Run ℕ → Run ℕ → Type 0
 CookedIn text raw cooked =
     (within text raw.start raw.len ≡ true) × (within text cooked.start cooked.len ≡ true)
     × CooksTo (text_at text raw) (text_at text cooked)
-
--- The first n records are lawful, and all are.
-abbrev pub RecordsTo : Layout → ℕ → Type 0
-RecordsTo l n = (x : ℕ) → x < n → LawfulRecord l x
-
-abbrev pub AllRecords : Layout → Type 0
-AllRecords l = RecordsTo l l.count
 
 -- The node of record x, where there is one.
 abbrev pub NodeAt : Layout → ℕ → Option Node → Type 0
@@ -98,30 +74,10 @@ Reached l x r c = (c < x) × ((m : Node) × NodeAt l c (Some m) × (admits r (so
 abbrev pub AllReached : Layout → ℕ → Node → Type 0
 AllReached l x n = (k c : ℕ) → slice_get (children l.entries n) k ≡ Some c → Reached l x (role_of_node n k) c
 
--- A table has these counts, up to 255.
-abbrev pub Tallies : List ℕ → (ℕ → ℕ) → Type 0
-Tallies table f = (y : ℕ) → y < length table → slice_index table y ≡ min (f y) 255
-
--- The lowest number below n of which P does not hold, if there is one.
-abbrev pub Lowest : (ℕ → Type 0) → ℕ → Option ℕ → Type 0
-Lowest P n None = (y : ℕ) → y < n → P y
-Lowest P n (Some x) = (x < n) × ((y : ℕ) → y < x → P y) × (P x → ⊥)
-
--- The node x is not the one with a wrong link, and has as many parents as it should.
-abbrev pub Right : List ℕ → Option ℕ → ℕ → Type 0
-Right table wrong x = (wrong ≢ Some x) × (slice_index table x ≡ due (length table) x)
-
--- The table counts the parents of each of n nodes, and the answer is the lowest node with a wrong link.
-abbrev pub LinksAt : Held → ℕ → Type 0
-LinksAt h x = LinksRow (look h) x (look h x)
-
-abbrev pub CountsParents : Held → ℕ → List ℕ → Option ℕ → Type 0
-CountsParents h n table wrong = Tallies table (parents (look h) n) × Lowest (LinksAt h) n wrong
-
--- All records are lawful, and the parents of each node are counted; or the lowest that is not is named.
-abbrev pub RecordsChecked : Layout → List ℕ → Result (Option ℕ) Fault → Type 0
-RecordsChecked l table (Ok wrong) = AllRecords l × ((h : Held) → Contents l h → CountsParents h l.count table wrong)
-RecordsChecked l table (Err e) = Refuses (record_questions l) e
+-- All records of the sections are lawful; or the lowest that is not is named.
+abbrev pub ChecksRecords : Sections → Result Records Fault → Type 0
+ChecksRecords s (Ok r) = (r.sections ≡ s) × AllRecords (laid s)
+ChecksRecords s (Err e) = Refuses (record_questions (laid s)) e
 
 abbrev pub AllLinks : Layout → Type 0
 AllLinks l = LawfulRoot l × ((x : ℕ) → x < l.count → LawfulLinks l x)
@@ -135,10 +91,10 @@ abbrev pub FitsIn : Sections → Counts → Type 0
 FitsIn s rooms = (length s.nodes.now ≤ rooms.nodes) × (length s.entries.now ≤ rooms.entries) × (length s.text.now ≤ rooms.text)
 
 -- All questions are answered yes, or the first no is named.
-abbrev pub Checked : List ℕ → Counts → Result Sections Fault → Type 0
-Checked file rooms (Ok s) =
+abbrev pub Checked : List ℕ → Counts → Result Records Fault → Type 0
+Checked file rooms (Ok r) =
     Versioned file × Sized file × Fits file rooms × AllRecords (layout file) × AllLinks (layout file)
-    × (laid s ≡ layout file) × FitsIn s rooms
+    × (laid r.sections ≡ layout file) × FitsIn r.sections rooms
 Checked file rooms (Err e) = Refuses (load_questions file rooms) e
 
 -- A store is refilled with the nodes of all records, and the three stores with all that the file holds.

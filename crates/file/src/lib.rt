@@ -2,9 +2,11 @@
 
 #![tactic(auto)]
 
+mod header;
 mod laws;
 mod loaded;
 mod record;
+mod records;
 mod sections;
 
 pub use laws::{lawful_exactly_where_granted, same_contents_same_file};

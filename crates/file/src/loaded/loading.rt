@@ -1,39 +1,44 @@
 // Loading a file.
-ghost use Rattle.std.specs.Prelude.{◌≡◌, MatchBool};
+ghost use Rattle.std.specs.Prelude.{◌≡◌, ℕ, slice_index};
 ghost use Rattle.file.specs.Calls.{loaded_stores, loaded_root, Loads};
-ghost use Rattle.file.specs.Lawful.{Fits};
 ghost use Rattle.file.specs.Steps.{Checked};
 
 use super::{Loaded, Refused};
-use crate::sections::{MAX_NODES, Sections};
+use crate::header::MAX_NODES;
+use crate::records::Records;
+use crate::sections::Sections;
 use base::Fault;
 use store::{Counts, Stores};
 
-// Asks everything of the file that is asked before it is loaded.
-fn check<'a>(file: &'a [u8], rooms: Counts) -> Result<Sections<'a>, Fault>
+// Asks everything of the file that is asked before it is loaded. The table of zeros is for the parents.
+fn check<'a, 't>(
+    file: &'a [u8],
+    rooms: Counts,
+    table: &'t mut [u8; MAX_NODES],
+) -> Result<Records<'a, 't>, Fault>
+    requires { (y : ℕ) → slice_index table.old y ≡ 0 }
     ensures { Checked file.now rooms result }
 {
     let sections = Sections::cut(file)?;
     if !sections.fits(rooms) {
         return Err(Fault::StoresTooSmall);
     }
-    let mut table = [0; MAX_NODES];
-    let parents = &mut table[0..sections.nodes.len()];
-    let wrong = sections.check_records(parents)?;
-    sections.check_links(parents, wrong)?;
-    Ok(sections)
+    let records = Records::check(sections, &mut table[..sections.nodes.len()])?;
+    records.check_links()?;
+    Ok(records)
 }
 
 // Loads a file into the stores, in the place of what they held, or refuses it, and leaves them as they were.
 pub fn load<'a>(file: &[u8], mut stores: Stores<'a>) -> Result<Loaded<'a>, Refused<'a>>
     ensures { Loads file.now stores.entry result }
 {
-    match check(file, stores.rooms()) {
-        Ok(sections) => {
-            sections.copy_to(&mut stores);
+    let mut table = [0; MAX_NODES];
+    match check(file, stores.rooms(), &mut table) {
+        Ok(records) => {
+            records.copy_to(&mut stores);
             Ok(Loaded {
                 stores,
-                root: sections.root,
+                root: records.sections.root,
             })
         }
         Err(fault) => Err(Refused { fault, stores }),

@@ -2,24 +2,27 @@ use Rattle.std.proofs.Common.{Ok, refl, subst}
 use Rattle.base.specs.Questions.{Refuses}
 use Rattle.file.specs.Lawful.{load_questions}
 use Rattle.file.specs.Steps.{Checked}
-use Rattle.file.proofs.Answering.{copy_records, copy_space, loads}
+use Rattle.file.proofs.Answering.{copy_space, loads}
+use Rattle.file.proofs.Tallied.{zeros}
 use Rattle.file.proofs.loaded.loading.load.Goals as goal
+
+pub check-requires : goal.check-requires
+check-requires c = zeros 4096
 
 pub copy_to-requires : goal.copy_to-requires
 copy_to-requires c =
     let file = c.args.file.now in
     let old = c.args.stores in
-    let s = c.in-Ok.sections in
-    let k = subst (λ rooms. Checked file rooms (Ok s)) c.rooms.ensures c.in-Ok.ensures in
-    record { records = copy_records file old old s k; space = copy_space file old old s k }
+    let r = c.in-Ok.records in
+    copy_space file old old r (subst (λ rooms. Checked file rooms (Ok r)) c.rooms.ensures c.in-Ok.ensures)
 
 pub returns-in-Ok : goal.returns-in-Ok
 returns-in-Ok c =
     let file = c.args.file.now in
-    let s = c.in-Ok.sections in
+    let r = c.in-Ok.records in
     let new = c.copy_to.new.stores in
-    let k = subst (λ rooms. Checked file rooms (Ok s)) c.rooms.ensures c.in-Ok.ensures in
-    loads file c.args.stores new s k c.copy_to.ensures (record { stores = new; root = s.root }) refl refl
+    let k = subst (λ rooms. Checked file rooms (Ok r)) c.rooms.ensures c.in-Ok.ensures in
+    loads file c.args.stores new r k c.copy_to.ensures (record { stores = new; root = r.sections.root }) refl refl
 
 pub returns-in-Err : goal.returns-in-Err
 returns-in-Err c = (

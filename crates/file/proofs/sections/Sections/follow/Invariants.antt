@@ -1,4 +1,4 @@
-use Rattle.file.specs.Steps.{laid}
+use Rattle.file.specs.Found.{laid}
 use Rattle.file.proofs.Following.{Followed}
 use Rattle.file.proofs.sections.Sections.follow.Given as goal
 

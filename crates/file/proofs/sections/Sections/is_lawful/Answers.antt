@@ -1,5 +1,5 @@
 use Rattle.std.proofs.Common.{sym, ◌∙◌}
-use Rattle.file.specs.Steps.{laid}
+use Rattle.file.specs.Found.{laid}
 use Rattle.file.proofs.Counted.{template_lawful, opaque_lawful}
 use Rattle.file.proofs.sections.Sections.is_lawful.Goals as goal
 

@@ -1,6 +1,6 @@
 use Rattle.std.proofs.Common.{◌∙◌, sym, refl}
 use Rattle.std.proofs.lemmas.Option.{slice_get_read}
-use Rattle.file.specs.Steps.{laid}
+use Rattle.file.specs.Found.{laid}
 use Rattle.file.proofs.Chunks.{record_of_array}
 use Rattle.file.proofs.Asked.{node_at}
 use Rattle.file.proofs.sections.Sections.node.Goals as goal

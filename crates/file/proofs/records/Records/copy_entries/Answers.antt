@@ -3,13 +3,13 @@ use Rattle.std.proofs.lemmas.Option.{slice_get-map, slice_get-get_or}
 use Rattle.std.proofs.lemmas.List.{length-map}
 use Rattle.std.specs.Option.{option_map}
 use Rattle.file.specs.Format.{word}
-use Rattle.file.specs.Steps.{laid}
+use Rattle.file.specs.Found.{laid}
 use Rattle.file.proofs.Copied.{next_item}
-use Rattle.file.proofs.sections.Sections.copy_entries.Goals as goal
+use Rattle.file.proofs.records.Records.copy_entries.Goals as goal
 
 pub loop-entry-preserved : goal.loop-entry-preserved
 loop-entry-preserved c =
-    let s = c.args.self.now in
+    let s = c.args.self.now.sections in
     let i = c.loop-entry.entry-index in
     let w = c.word.result in
     next_item (laid s).entries i w c.clear.new.self c.loop-entry.entries c.append.new.self c.append.result c.loop-entry.invariant

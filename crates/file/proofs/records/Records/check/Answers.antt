@@ -1,20 +1,21 @@
-use Rattle.std.proofs.Common.{◌≡◌, ◌+◌, length, sym, ◌∙◌, subst, arith, below_more}
+use Rattle.std.proofs.Common.{◌≡◌, ◌+◌, length, refl, sym, ◌∙◌, subst, arith, below_more}
+use Rattle.std.proofs.lemmas.Grind.{merely}
 use Rattle.std.proofs.lemmas.Result.{err_from_is_err_and}
-use Rattle.file.specs.Steps.{laid, CountsParents}
+use Rattle.file.specs.Found.{laid, CountsParents}
 use Rattle.file.proofs.Asked.{node_found, node_refused}
 use Rattle.file.proofs.Parents.{parents_more, parents_wrong}
-use Rattle.file.proofs.sections.Sections.check_records.Goals as goal
-use Rattle.file.proofs.sections.Sections.check_records.Goals.{then-not-follow, else-not-follow}
+use Rattle.file.proofs.records.Records.check.Goals as goal
+use Rattle.file.proofs.records.Records.check.Goals.{then-not-follow, else-not-follow}
 
 pub returns-in_err-node : goal.returns-in_err-node
 returns-in_err-node c =
     let p = err_from_is_err_and c.from_residual.result c.from_residual.ensures.1 in
     rw (p.1, p.2)
-    (node_refused (laid c.args.self.now) c.loop-x.x c.lawful_node.result c.in_err-node.field-0.0 c.loop-x-test.true c.loop-x.invariant.0 c.lawful_node.ensures c.in_err-node.ensures.value)
+    (node_refused (laid c.args.sections) c.loop-x.x c.lawful_node.result c.in_err-node.field-0.0 c.loop-x-test.true c.loop-x.invariant.0 c.lawful_node.ensures c.in_err-node.ensures.value)
 
 pub loop-x-preserved : goal.loop-x-preserved
 loop-x-preserved c =
-    let l = laid c.args.self.now in
+    let l = laid c.args.sections in
     let x = c.loop-x.x in
     let n = c.in_ok-node.node in
     let ok = node_found l x c.lawful_node.result n c.lawful_node.ensures c.in_ok-node.ensures.ok_part in
@@ -33,9 +34,14 @@ loop-x-preserved c =
       ],
     )
 
+pub invariant_of-result : goal.invariant_of-result
+invariant_of-result c =
+    let all : c.loop-x.x ≡ length c.args.sections.nodes.now = omega (arith, c.loop-x-test.false, c.loop-x.auto.x-end) in
+    record {
+      lawful = merely (λ x lt. c.loop-x.invariant.0 x (omega arith));
+      long = c.loop-x.auto.parents ∙ c.requires.long;
+      counted = merely (λ h cs. subst (λ n. CountsParents h n c.loop-x.parents c.loop-x.wrong) all (c.loop-x.invariant.1 h cs));
+    }
+
 pub returns : goal.returns
-returns c =
-    let all : c.loop-x.x ≡ length c.args.self.now.nodes.now = omega (arith, c.loop-x-test.false, c.loop-x.auto.x-end) in (
-      λ x lt. c.loop-x.invariant.0 x (omega arith),
-      λ h cs. subst (λ n. CountsParents h n c.loop-x.parents c.loop-x.wrong) all (c.loop-x.invariant.1 h cs),
-    )
+returns c = (refl, λ x lt. c.loop-x.invariant.0 x (omega (arith, c.loop-x-test.false)))

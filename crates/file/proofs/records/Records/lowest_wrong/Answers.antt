@@ -1,5 +1,5 @@
 use Rattle.std.proofs.Common.{arith, below_more}
-use Rattle.file.proofs.sections.links.lowest_wrong.Goals as goal
+use Rattle.file.proofs.records.Records.lowest_wrong.Goals as goal
 
 pub returns-then-not-is_right : goal.returns-then-not-is_right
 returns-then-not-is_right c = (c.loop-x-test.true, c.loop-x.invariant, c.if-not-is_right.ensures)

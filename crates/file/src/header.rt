@@ -1,10 +1,7 @@
-// Cutting a file into its sections.
-ghost use Rattle.std.specs.Prelude.{◌≡◌, ◌+◌, ◌*◌, ◌^◌, ◌<◌, ◌≤◌, length, MatchBool};
-ghost use Rattle.file.specs.Layout.{Sized};
-ghost use Rattle.file.specs.Steps.{header_of, place_at, InLimits, InPlace, ReadsHeader, CutsInto};
+// The header of a file.
+ghost use Rattle.std.specs.Prelude.{◌≡◌, ◌+◌, ◌≤◌, length, MatchBool};
 
-use super::{Header, Place, Sections};
-use crate::record::{RECORD, word};
+use crate::record::{RECORD, WORD, word};
 use base::Fault;
 
 // The bytes of the header.
@@ -20,9 +17,27 @@ const MAX_ENTRIES: usize = 16_384;
 
 const MAX_TEXT: usize = 65_536;
 
+// Where the header says that a section is: how many items it has, and where it begins.
+#[derive(Clone, Copy)]
+pub struct Place {
+    pub count: usize,
+    pub offset: usize,
+}
+
+// What the header says.
+#[derive(Clone, Copy)]
+pub struct Header {
+    pub root: u32,
+    pub nodes: Place,
+    pub entries: Place,
+    pub text: Place,
+}
+
 impl Header {
+    ghost use Rattle.file.specs.Steps.{InLimits, InPlace, ReadsHeader};
+
     // Reads the header of a file.
-    fn read(file: &[u8]) -> Result<Header, Fault>
+    pub(crate) fn read(file: &[u8]) -> Result<Header, Fault>
         ensures { ReadsHeader file.now result }
     {
         if file.len() < HEADER || word(file, 0) != VERSION {
@@ -37,7 +52,7 @@ impl Header {
     }
 
     // Whether the counts keep to the limits.
-    fn is_in_limits(self) -> bool
+    pub(crate) fn is_in_limits(self) -> bool
         ensures { MatchBool result (InLimits self) (InLimits self → ⊥) }
     {
         self.nodes.count >= 1
@@ -47,12 +62,12 @@ impl Header {
     }
 
     // Whether the sections follow the header and each other, up to the end of a file of `len` bytes.
-    fn is_in_place(self, len: usize) -> bool
+    pub(crate) fn is_in_place(self, len: usize) -> bool
         requires { InLimits self }
         ensures { MatchBool result (InPlace self len) (InPlace self len → ⊥) }
     {
         let entries = HEADER + RECORD * self.nodes.count;
-        let text = entries + 4 * self.entries.count;
+        let text = entries + WORD * self.entries.count;
         self.nodes.offset == HEADER
             && self.entries.offset == entries
             && self.text.offset == text
@@ -61,6 +76,8 @@ impl Header {
 }
 
 impl Place {
+    ghost use Rattle.file.specs.Steps.{place_at};
+
     // Reads a section's count and offset.
     fn read(file: &[u8], at: usize) -> Place
         requires { at + 8 ≤ length file.now }
@@ -70,25 +87,5 @@ impl Place {
             count: word(file, at) as usize,
             offset: word(file, at + 4) as usize,
         }
-    }
-}
-
-impl<'a> Sections<'a> {
-    // Cuts a file into its sections.
-    pub(crate) fn cut(file: &'a [u8]) -> Result<Sections<'a>, Fault>
-        ensures { CutsInto file.now result }
-    {
-        let header = Header::read(file)?;
-        if !header.is_in_limits() || !header.is_in_place(file.len()) {
-            return Err(Fault::BadSizes);
-        }
-        let (nodes, _) = file[header.nodes.offset..header.entries.offset].as_chunks();
-        let (entries, _) = file[header.entries.offset..header.text.offset].as_chunks();
-        Ok(Sections {
-            root: header.root,
-            nodes,
-            entries,
-            text: &file[header.text.offset..],
-        })
     }
 }

@@ -1,7 +1,0 @@
-use Rattle.std.proofs.Common.{take}
-use Rattle.store.specs.Held.{Refilled}
-use Rattle.file.specs.Steps.{laid}
-use Rattle.file.proofs.sections.Sections.copy_entries.Given as goal
-
-abbrev pub invariant-loop-entry : goal.invariant-loop-entry
-invariant-loop-entry l = Refilled l.initial.entries (take l.entry-index (laid l.self).entries) l.entries
