@@ -1,12 +1,15 @@
 -- Asking one question of each node.
-use Rattle.std.proofs.Common.{◌≡◌, ◌≢◌, ℕ, ◌<◌, Err, Result, Some, None, Option, MatchOption, sym, refl, ◌∙◌, subst, arith}
+use Rattle.std.proofs.Common.{◌≡◌, ℕ, ◌<◌, Ok, Err, Result, Some, None, Option, sym, refl, ◌∙◌, subst, arith}
 use Rattle.std.specs.Option.{ok_or}
 use Rattle.base.specs.declared.fault.Fault.{Fault}
 use Rattle.base.specs.declared.fault.Fault.TheVariants.{BadRecord}
 use Rattle.base.specs.Questions.{Refuses}
 use Rattle.base.proofs.Asking.{refuses_each}
 use Rattle.tree.specs.declared.node.Node.{Node}
+use Rattle.std.specs.Result.{result_ok}
 use Rattle.file.specs.declared.record.Record.{Record}
+use Rattle.file.specs.declared.record.UnknownRecord.{UnknownRecord}
+use Rattle.file.specs.Decoding.{Decodes}
 use Rattle.file.specs.Format.{record_at, record_of}
 use Rattle.file.specs.Layout.{Layout}
 use Rattle.file.proofs.OneNode.{one_node}
@@ -22,9 +25,9 @@ pub unlawful_record : (l : Layout) (x : ℕ) (n : Node) → record_of n ≡ reco
 unlawful_record l x n e not r = not (subst (LawfulNode l.entries l.text) (one_node r.0 n (r.1 ∙ sym e)) r.2)
 
 -- What is read of record x is its node.
-pub node_at : (l : Layout) (x : ℕ) (o : Option Node) (r : Record) → x < l.count → r ≡ record_at l.rows x → MatchOption o ((n : Node) → record_of n ≢ r) (λ n. record_of n ≡ r) → NodeAt l x o
-node_at l x None r lt e w = λ _ n f. w n (f ∙ sym e)
-node_at l x (Some n) r lt e w = (lt, w ∙ e)
+pub node_at : (l : Layout) (x : ℕ) (r : Record) (found : Result Node UnknownRecord) → x < l.count → r ≡ record_at l.rows x → Decodes r found → NodeAt l x (result_ok found)
+node_at l x r (Ok n) lt e w = (lt, w ∙ e)
+node_at l x r (Err u) lt e w = λ _ n f. w n (f ∙ sym e)
 
 -- A question of a node that is answered by it, or by a fault.
 pub node_found : (l : Layout) (x : ℕ) (o : Option Node) (n : Node) → NodeChecked l x o → o ≡ Some n → (record_of n ≡ record_at l.rows x) × LawfulNode l.entries l.text n

@@ -1,5 +1,6 @@
 pub mod Arrays
 pub mod Calls
+pub mod Decoding
 pub mod Format
 pub mod Found
 pub mod Lawful

@@ -114,7 +114,7 @@ impl<'a, 't> Records<'a, 't> {
     {
         nodes.clear();
         for record in self.sections.nodes {
-            if let Some(node) = Record::read(record).node() {
+            if let Ok(node) = Node::try_from(Record::from(record)) {
                 let _ = nodes.append(&[node]);
             }
         }

@@ -64,7 +64,7 @@ impl<'a> Sections<'a> {
     pub(crate) fn node(&self, x: usize) -> Option<Node>
         ensures { NodeAt (laid self.now) x result }
     {
-        Record::read(self.nodes.get(x)?).node()
+        Node::try_from(Record::from(self.nodes.get(x)?)).ok()
     }
 
     // The number of the node's child k.
