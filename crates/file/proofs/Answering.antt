@@ -13,8 +13,8 @@ use Rattle.store.specs.Stores.{held_of, rooms_of}
 use Rattle.tree.proofs.Cuts.{length_cut}
 use Rattle.file.specs.declared.sections.Sections.{Sections}
 use Rattle.file.specs.declared.records.Records.{Records}
-use Rattle.file.specs.declared.loaded.Loaded.{Loaded}
-use Rattle.file.specs.Calls.{loaded_stores, loaded_root, Holds, DenotesPayoff, Loads}
+use Rattle.file.specs.Calls.{Holds}
+use Rattle.file.specs.Payoff.{IsPayoffRoot}
 use Rattle.file.specs.Format.{word, record_of}
 use Rattle.file.specs.Layout.{layout, root, node_count, entry_count, text_count, text_offset}
 use Rattle.file.specs.Lawful.{Contents, LawfulFile, Fits, LawfulRecord, size_questions, record_questions, link_questions, load_questions}
@@ -92,18 +92,21 @@ module _ (file : List ℕ) (old new : Stores) (r : Records) (k : Checked file (r
     refilled : {T : Type 0} (a : Store T) (xs : List T) (b : Store T) → Refilled a xs b → Refilled a (held b) b
     refilled a xs b r = (refl, r.1 ∙ ap (λ ys. ys ++ drop (length ys) (lent a)) (sym r.0))
 
-    pub loads : (d : Loaded) → loaded_stores d ≡ new → loaded_root d ≡ r.sections.root → Loads file old (Ok d)
-    loads d is at =
-        let top : loaded_root d ≡ root file = at ∙ ap (λ l. l.top) k.5 in
-        let t = payoff_of (held_of new) (root file) lawful.lawful in (
-          subst (λ n. LawfulFile file (held_of n)) (sym is) lawful,
-          k.2,
-          top,
-          subst (λ n. Holds old (held_of n) n) (sym is)
-              (record {
-                nodes_held = refilled old.nodes c.0.0 new.nodes c.0.1;
-                entries_held = refilled old.entries (laid r.sections).entries new.entries c.1;
-                text_held = refilled old.text (laid r.sections).text new.text c.2;
-              }),
-          (t.0, subst (λ m. DenotesPayoff (held_of (loaded_stores d)) m t.0) (sym top) (subst (λ n. DenotesPayoff (held_of n) (root file) t.0) (sym is) t.1)),
-        )
+    top : r.sections.root ≡ root file
+    top = ap (λ l. l.top) k.5
+
+    pub payoff : IsPayoffRoot (held_of new) r.sections.root
+    payoff = subst (IsPayoffRoot (held_of new)) (sym top) (payoff_of (held_of new) (root file) lawful.lawful)
+
+    pub loads : LawfulFile file (held_of new) × Fits file (rooms_of old) × (r.sections.root ≡ root file) × Holds old (held_of new) new × IsPayoffRoot (held_of new) r.sections.root
+    loads = (
+      lawful,
+      k.2,
+      top,
+      record {
+        nodes_held = refilled old.nodes c.0.0 new.nodes c.0.1;
+        entries_held = refilled old.entries (laid r.sections).entries new.entries c.1;
+        text_held = refilled old.text (laid r.sections).text new.text c.2;
+      },
+      payoff,
+    )

@@ -12,7 +12,7 @@ use Rattle.tree.proofs.Counting.{same_other}
 use Rattle.tree.proofs.Gathering.{one_tree_of_all}
 use Rattle.tree.proofs.Judging.{lawful_tree}
 use Rattle.tree.proofs.Records.{read_inside}
-use Rattle.file.specs.Calls.{DenotesPayoff}
+use Rattle.file.specs.Payoff.{DenotesPayoff}
 use Rattle.file.specs.Lawful.{LawfulNode, LinksRow, ExpressionRow, LawfulHeld}
 use Rattle.file.proofs.Following.{nth_none}
 

@@ -1,16 +1,15 @@
 -- What load answers.
-use Rattle.std.specs.Prelude.{◌≡◌, ℕ, ◌<◌, ◌≤◌, List, length, Ok, Err, Result}
+use Rattle.std.specs.Prelude.{◌≡◌, ℕ, List, Ok, Err, Result}
 use Rattle.base.specs.Questions.{Refuses}
 use Rattle.store.specs.declared.stores.Stores.{Stores}
 use Rattle.store.specs.Held.{lent, Refilled}
 use Rattle.store.specs.Stores.{held_of, rooms_of}
-use Rattle.tree.specs.Tree.{Tree, label, uses, Denotes}
-use Rattle.tree.specs.Heap.{Held, look}
-use Rattle.tree.specs.Lawful.{Payoff}
+use Rattle.tree.specs.Heap.{Held}
 use Rattle.file.specs.declared.loaded.Loaded.{Loaded}
 use Rattle.file.specs.declared.loaded.Refused.{Refused}
 use Rattle.file.specs.Layout.{root}
 use Rattle.file.specs.Lawful.{LawfulFile, Fits, load_questions}
+use Rattle.file.specs.Payoff.{IsPayoffRoot}
 
 abbrev pub loaded_stores : Loaded → Stores
 loaded_stores d = d.stores
@@ -24,14 +23,6 @@ pub record Holds (old : Stores) (h : Held) (new : Stores) : Type 0 where
   pub entries_held : Refilled old.entries h.entries new.entries
   pub text_held : Refilled old.text h.text new.text
 
--- The number `top` denotes the tree of a payoff, in which each node that is held stands once, and no other.
-pub record DenotesPayoff (h : Held) (top : ℕ) (t : Tree) : Type 0 where
-  pub rooted : label t ≡ top
-  pub denoted : Denotes (look h) t
-  pub lawful : Payoff t
-  pub once : (x : ℕ) → x < length h.nodes → uses x t ≡ 1
-  pub no_other : (x : ℕ) → length h.nodes ≤ x → uses x t ≡ 0
-
 -- The lent memory is as it was, and as much of it is held.
 abbrev pub Untouched : Stores → Stores → Type 0
 Untouched old new =
@@ -44,5 +35,5 @@ abbrev pub Loads : List ℕ → Stores → Result Loaded Refused → Type 0
 Loads file old (Ok d) =
     LawfulFile file (held_of d.stores) × Fits file (rooms_of old) × (d.root ≡ root file)
     × Holds old (held_of d.stores) d.stores
-    × ((t : Tree) × DenotesPayoff (held_of d.stores) d.root t)
+    × IsPayoffRoot (held_of d.stores) d.root
 Loads file old (Err e) = Refuses (load_questions file (rooms_of old)) e.fault × Untouched old e.stores

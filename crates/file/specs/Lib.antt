@@ -6,5 +6,6 @@ pub mod Found
 pub mod Lawful
 pub mod Laws
 pub mod Layout
+pub mod Payoff
 pub mod Steps
 pub mod Tables

@@ -1,6 +1,6 @@
 // Loading a file.
 ghost use Rattle.std.specs.Prelude.{◌≡◌, ℕ, slice_index};
-ghost use Rattle.file.specs.Calls.{loaded_stores, loaded_root, Loads};
+ghost use Rattle.file.specs.Calls.{Loads};
 ghost use Rattle.file.specs.Steps.{Checked};
 
 use super::{Loaded, Refused};
@@ -42,30 +42,5 @@ pub fn load<'a>(file: &[u8], mut stores: Stores<'a>) -> Result<Loaded<'a>, Refus
             })
         }
         Err(fault) => Err(Refused { fault, stores }),
-    }
-}
-
-impl<'a> Loaded<'a> {
-    // The stores, to read.
-    pub fn stores(&self) -> &Stores<'a>
-        ensures { result.now ≡ loaded_stores self.now }
-    {
-        &self.stores
-    }
-
-    // The number of the root.
-    pub fn root(&self) -> u32
-        ensures { result ≡ loaded_root self.now }
-    {
-        self.root
-    }
-
-    // Takes the stores and the number of the root.
-    pub fn into_parts(self) -> (Stores<'a>, u32)
-        ensures stores { result.0 ≡ loaded_stores self.entry }
-        ensures root { result.1 ≡ loaded_root self.entry }
-    {
-        let Loaded { stores, root } = self;
-        (stores, root)
     }
 }

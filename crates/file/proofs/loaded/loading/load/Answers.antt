@@ -1,8 +1,9 @@
 use Rattle.std.proofs.Common.{Ok, refl, subst}
+use Rattle.std.proofs.lemmas.Grind.{merely}
 use Rattle.base.specs.Questions.{Refuses}
 use Rattle.file.specs.Lawful.{load_questions}
 use Rattle.file.specs.Steps.{Checked}
-use Rattle.file.proofs.Answering.{copy_space, loads}
+use Rattle.file.proofs.Answering.{copy_space, payoff, loads}
 use Rattle.file.proofs.Tallied.{zeros}
 use Rattle.file.proofs.loaded.loading.load.Goals as goal
 
@@ -16,13 +17,17 @@ copy_to-requires c =
     let r = c.in-Ok.records in
     copy_space file old old r (subst (λ rooms. Checked file rooms (Ok r)) c.rooms.ensures c.in-Ok.ensures)
 
+pub invariant_of-result : goal.invariant_of-result
+invariant_of-result c =
+    let file = c.args.file.now in
+    let r = c.in-Ok.records in
+    record { payoff = merely (payoff file c.args.stores c.copy_to.new.stores r (subst (λ rooms. Checked file rooms (Ok r)) c.rooms.ensures c.in-Ok.ensures) c.copy_to.ensures) }
+
 pub returns-in-Ok : goal.returns-in-Ok
 returns-in-Ok c =
     let file = c.args.file.now in
     let r = c.in-Ok.records in
-    let new = c.copy_to.new.stores in
-    let k = subst (λ rooms. Checked file rooms (Ok r)) c.rooms.ensures c.in-Ok.ensures in
-    loads file c.args.stores new r k c.copy_to.ensures (record { stores = new; root = r.sections.root }) refl refl
+    loads file c.args.stores c.copy_to.new.stores r (subst (λ rooms. Checked file rooms (Ok r)) c.rooms.ensures c.in-Ok.ensures) c.copy_to.ensures
 
 pub returns-in-Err : goal.returns-in-Err
 returns-in-Err c = (
