@@ -23,7 +23,7 @@ use Rattle.file.specs.Found.{RecordsTo, AllRecords, LinksAt, CountsParents, Link
 use Rattle.file.specs.Steps.{AllReached, AllLinks}
 use Rattle.file.proofs.Contained.{holding, how_many}
 use Rattle.file.proofs.Linking.{node_row, links_found, links_back}
-use Rattle.file.proofs.Tallied.{tallied_as, lowest_kept, lowest_found, lowest_later}
+use Rattle.file.proofs.Tallied.{right_parts, right_from, tallied_as, lowest_kept, lowest_found, lowest_later}
 use Rattle.file.specs.Tables.{Tallies, Lowest, Right}
 
 lowest_wrong : (P : ℕ → Type 0) (n : ℕ) (o : Option ℕ) → Lowest P n o → (P n → ⊥) → Lowest P (n + 1) (option_or o (Some n))
@@ -77,11 +77,11 @@ module _ (l : Layout) (table : List ℕ) (wrong : Option ℕ) (long : length tab
   -- Where this node and all lower ones are right, its links are lawful.
   right_at : (x : ℕ) → x < l.count → ((y : ℕ) → y ≤ x → Right table wrong y) → (h : Held) → Contents l h → CountsParents h l.count table wrong → LinkedAt h x
   right_at x lt right h cs w =
-      let here = right x (omega arith) in
+      let here = right_parts table wrong x (right x (omega arith)) in
       let e = w.0 x (omega arith) in
       let d : get_or table x 0 ≡ due l.count x = here.1 ∙ ap (λ n. due n x) long in
       let is_due : parents (look h) l.count x ≡ due l.count x = omega (arith, e, d, due_small l.count x) in (
-        below_named (LinksAt h) l.count x wrong w.1 lt (λ y le. (right y le).0),
+        below_named (LinksAt h) l.count x wrong w.1 lt (λ y le. (right_parts table wrong y (right y le)).0),
         subst (λ n. parents (look h) n x ≡ due n x) (sym (how_many l h cs)) is_due,
       )
 
@@ -97,7 +97,7 @@ module _ (l : Layout) (table : List ℕ) (wrong : Option ℕ) (long : length tab
       let e = w.0 x (omega arith) in
       let d : due (length table) x ≡ due l.count x = ap (λ n. due n x) long in
       let is_due : parents (look h.0) l.count x ≡ due l.count x = subst (λ n. parents (look h.0) n x ≡ due n x) (how_many l h.0 h.1) r.1 in
-      not (named (LinksAt h.0) l.count wrong w.1 r.0, omega (arith, e, d, is_due, due_small l.count x))
+      not (right_from table wrong x (named (LinksAt h.0) l.count wrong w.1 r.0) (omega (arith, e, d, is_due, due_small l.count x)))
     where
       named : (P : ℕ → Type 0) (n : ℕ) (o : Option ℕ) → Lowest P n o → P x → o ≡ Some x → ⊥
       named P n None low here f = let z : ◌≡◌ {A = ℕ} 0 1 = cc in omega arith

@@ -1,9 +1,11 @@
 -- Counting parents in a table, and the lowest wrong node.
-use Rattle.std.proofs.Common.{◌≡◌, ℕ, zero, suc, ◌+◌, ◌<◌, min, ◌⊎◌, List, [], ◌∷◌, get_or, take, replicate, Some, None, Option, sym, refl, ap, ◌∙◌, subst, inl, inr, arith}
+use Rattle.std.proofs.Common.{◌≡◌, ◌≢◌, ◌≤◌, MatchOption, eqb, Bool, true, false, not, ◌&&◌, IsTrue, length, ℕ, zero, suc, ◌+◌, ◌<◌, min, ◌⊎◌, List, [], ◌∷◌, get_or, take, replicate, Some, None, Option, sym, refl, ap, ◌∙◌, subst, inl, inr, arith}
 use Rattle.std.specs.List.{slice_get}
 use Rattle.tree.specs.Tree.{same}
 use Rattle.tree.specs.Laws.{count}
-use Rattle.file.specs.Tables.{Tallies, Lowest}
+use Rattle.std.proofs.lemmas.Bool.{eqb-false, eqb-true, eq-eqb, ne_eqb}
+use Rattle.file.specs.Lawful.{due}
+use Rattle.file.specs.Tables.{Tallies, Lowest, is_named, right, Right}
 
 -- Counts that are the same are tallied by the same table.
 pub tallied_as : (table : List ℕ) (f g : ℕ → ℕ) → ((y : ℕ) → f y ≡ g y) → Tallies table f → Tallies table g
@@ -46,3 +48,29 @@ pub zeros : (n y : ℕ) → ◌≡◌ {A = ℕ} (get_or (replicate n 0) y 0) 0
 zeros zero y = refl
 zeros (suc n) zero = refl
 zeros (suc n) (suc y) = zeros n y
+
+-- What a right node has, and back.
+not_named : (wrong : Option ℕ) (x : ℕ) → is_named wrong x ≡ false → wrong ≢ Some x
+not_named None x f e = let z : ◌≡◌ {A = ℕ} 0 1 = cc in omega arith
+not_named (Some w) x f e = let g : w ≡ x = cc in eqb-false w x f g
+
+unnamed : (wrong : Option ℕ) (x : ℕ) → wrong ≢ Some x → is_named wrong x ≡ false
+unnamed None x f = refl
+unnamed (Some w) x f = ne_eqb w x (λ e. f (ap (λ y. Some y) e))
+
+pub right_parts : (table : List ℕ) (wrong : Option ℕ) (x : ℕ) → Right table wrong x → (wrong ≢ Some x) × (get_or table x 0 ≡ due (length table) x)
+right_parts table wrong x r = go (is_named wrong x) refl r
+  where
+    go : (b : Bool) → is_named wrong x ≡ b → IsTrue (not b && eqb (get_or table x 0) (due (length table) x)) → (wrong ≢ Some x) × (get_or table x 0 ≡ due (length table) x)
+    go true e t = absurd (let z : ◌≡◌ {A = ℕ} 0 1 = cc in omega arith)
+    go false e t = (not_named wrong x e, eqb-true _ _ t)
+
+pub right_from : (table : List ℕ) (wrong : Option ℕ) (x : ℕ) → wrong ≢ Some x → get_or table x 0 ≡ due (length table) x → Right table wrong x
+right_from table wrong x f e = ap (λ b. not b && eqb (get_or table x 0) (due (length table) x)) (unnamed wrong x f) ∙ eq-eqb _ _ e
+
+-- The first of the numbers below n that is not right is the lowest.
+pub first_is_lowest : (table : List ℕ) (wrong : Option ℕ) (n : ℕ) (r : Option ℕ)
+    → MatchOption r ((k : ℕ) → 0 ≤ k → k < n → Right table wrong k) (λ i. (0 ≤ i) × (i < n) × (right table wrong i ≡ false) × ((k : ℕ) → 0 ≤ k → k < i → Right table wrong k))
+    → Lowest (Right table wrong) n r
+first_is_lowest table wrong n None all = λ y lt. all y (omega arith) lt
+first_is_lowest table wrong n (Some i) w = (w.1, λ y lt. w.3 y (omega arith) lt, λ is. let f : true ≡ false = sym is ∙ w.2 in let z : ◌≡◌ {A = ℕ} 0 1 = cc in omega arith)

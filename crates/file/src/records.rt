@@ -3,7 +3,7 @@ ghost use Rattle.std.specs.Prelude.{◌≡◌, ℕ, ◌<◌, ◌≤◌, length, 
 ghost use Rattle.store.specs.Held.{room, Refilled};
 ghost use Rattle.store.specs.Stores.{rooms_of};
 ghost use Rattle.file.specs.Found.{laid, AllRecords, LinksCounted};
-ghost use Rattle.file.specs.Tables.{Lowest, Right};
+ghost use Rattle.file.specs.Tables.{Lowest, Right, right};
 
 use crate::record::{Record, word};
 use crate::sections::Sections;
@@ -79,19 +79,14 @@ impl<'a, 't> Records<'a, 't> {
     fn lowest_wrong(&self) -> Option<usize>
         ensures { Lowest (Right self.now.parents.now self.now.wrong) (length self.now.parents.now) result }
     {
-        for x in 0..self.parents.len() {
-            if !self.is_right(x) {
-                return Some(x);
-            }
-        }
-        None
+        (0..self.parents.len()).find(|&x| !self.is_right(x))
     }
 
     // Whether the node x has no wrong link, as far as is known, and as many parents as it should: one, and the last node
     // none.
     fn is_right(&self, x: usize) -> bool
         requires { x < length self.now.parents.now }
-        ensures { MatchBool result (Right self.now.parents.now self.now.wrong x) (Right self.now.parents.now self.now.wrong x → ⊥) }
+        ensures { result ≡ right self.now.parents.now self.now.wrong x }
     {
         let due = if x + 1 < self.parents.len() { 1 } else { 0 };
         self.wrong != Some(x) && self.parents[x] == due

@@ -186,7 +186,7 @@ fn may_begin(first: FirstChild, children: u32) -> bool
     }
 }
 
-// Counts one parent more for a node, up to 255.
+// Counts one parent more for a node, up to 255. Nothing is known of a slice after `get_mut`, so the index is compared here.
 fn tally(parents: &mut [u8], child: u32)
     ensures { (f : ℕ → ℕ) → Tallies parents.old f → Tallies parents.new (λ y. f y + same y child) }
 {

@@ -1,11 +1,12 @@
-use Rattle.std.proofs.Common.{arith, below_more}
+use Rattle.std.proofs.Common.{◌≡◌, false, length, rules}
+use Rattle.std.proofs.lemmas.Iterator.{first_from_Range}
+use Rattle.file.specs.Tables.{right, Right}
+use Rattle.file.proofs.Tallied.{first_is_lowest}
 use Rattle.file.proofs.records.Records.lowest_wrong.Goals as goal
 
-pub returns-then-not-is_right : goal.returns-then-not-is_right
-returns-then-not-is_right c = (c.loop-x-test.true, c.loop-x.invariant, c.if-not-is_right.ensures)
-
-pub loop-x-preserved : goal.loop-x-preserved
-loop-x-preserved c = below_more _ _ c.loop-x.invariant c.if-not-is_right.ensures
-
 pub returns : goal.returns
-returns c = λ y lt. c.loop-x.invariant y (omega (arith, c.loop-x-test.false))
+returns c =
+    let table = c.args.self.now.parents.now in
+    let wrong = c.args.self.now.wrong in
+    first_is_lowest table wrong (length table) c.find.result
+    (first_from_Range _ _ _ c.find.result (λ x. right table wrong x ≡ false) (Right table wrong) c.find.ensures.ran (λ x q k. search rules) (λ x q k. search rules))
