@@ -24,9 +24,6 @@ use Rattle.file.proofs.Counted.{length_words}
 use Rattle.file.proofs.Granting.{held_lawful}
 use Rattle.file.proofs.TreeOf.{payoff_of}
 
-pub cut_refused : (file : List ℕ) (rooms : Counts) (e : Fault) → Refuses (size_questions file) e → Refuses (load_questions file rooms) e
-cut_refused file rooms e r = refuses_first (size_questions file) (((3, 0), Fits file rooms) ∷ (record_questions (layout file) ++ link_questions (layout file))) e r
-
 module _ (file : List ℕ) (rooms : Counts) (s : Sections) (k : CutsInto file (Ok s)) where
   same : laid s ≡ layout file
   same = k.2
@@ -78,9 +75,6 @@ module _ (file : List ℕ) (rooms : Counts) (s : Sections) (k : CutsInto file (O
 -- ---- what is loaded
 
 module _ (file : List ℕ) (old new : Stores) (r : Records) (k : Checked file (rooms_of old) (Ok r)) where
-  pub copy_space : FitsIn r.sections (rooms_of old)
-  copy_space = k.6
-
   module _ (c : CopiesTo (laid r.sections) old new) where
     contained : Contents (layout file) (held_of new)
     contained = subst (λ l. Contents l (held_of new)) k.5 (record { recorded = ap (map record_of) c.0.1.0 ∙ c.0.2; listed = c.1.0; texted = c.2.0 })

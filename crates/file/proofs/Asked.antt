@@ -1,5 +1,5 @@
 -- Asking one question of each node.
-use Rattle.std.proofs.Common.{◌≡◌, ℕ, ◌<◌, Ok, Err, Result, Some, None, Option, sym, refl, ◌∙◌, subst, arith}
+use Rattle.std.proofs.Common.{Bool, true, false, MatchBool, ◌≡◌, ℕ, ◌<◌, Ok, Err, Result, Some, None, Option, sym, refl, ◌∙◌, subst, arith}
 use Rattle.std.specs.Option.{ok_or}
 use Rattle.base.specs.declared.fault.Fault.{Fault}
 use Rattle.base.specs.declared.fault.Fault.TheVariants.{BadRecord}
@@ -10,9 +10,10 @@ use Rattle.std.specs.Result.{result_ok}
 use Rattle.file.specs.declared.record.Record.{Record}
 use Rattle.file.specs.declared.record.UnknownRecord.{UnknownRecord}
 use Rattle.file.specs.Decoding.{Decodes}
+use Rattle.std.specs.Bool.{then_some}
+use Rattle.file.proofs.OneNode.{one_node}
 use Rattle.file.specs.Format.{record_at, record_of}
 use Rattle.file.specs.Layout.{Layout}
-use Rattle.file.proofs.OneNode.{one_node}
 use Rattle.file.specs.Lawful.{LawfulNode, LawfulRecord, record_questions}
 use Rattle.file.specs.Found.{RecordsTo}
 use Rattle.file.specs.Steps.{NodeAt, NodeChecked}
@@ -20,14 +21,15 @@ use Rattle.file.specs.Steps.{NodeAt, NodeChecked}
 pub record_refused : (l : Layout) (x : ℕ) → x < l.count → RecordsTo l x → (LawfulRecord l x → ⊥) → Refuses (record_questions l) (BadRecord x)
 record_refused l x lt low not = refuses_each 4 (LawfulRecord l) (BadRecord x) 0 l.count x refl (omega arith) (omega arith) (λ y a b. low y b) not
 
--- A record whose node is not lawful is not lawful.
-pub unlawful_record : (l : Layout) (x : ℕ) (n : Node) → record_of n ≡ record_at l.rows x → (LawfulNode l.entries l.text n → ⊥) → LawfulRecord l x → ⊥
-unlawful_record l x n e not r = not (subst (LawfulNode l.entries l.text) (one_node r.0 n (r.1 ∙ sym e)) r.2)
-
 -- What is read of record x is its node.
 pub node_at : (l : Layout) (x : ℕ) (r : Record) (found : Result Node UnknownRecord) → x < l.count → r ≡ record_at l.rows x → Decodes r found → NodeAt l x (result_ok found)
 node_at l x r (Ok n) lt e w = (lt, w ∙ e)
 node_at l x r (Err u) lt e w = λ _ n f. w n (f ∙ sym e)
+
+-- It is kept where it is lawful.
+pub kept_checked : (l : Layout) (x : ℕ) (n : Node) (b : Bool) → NodeAt l x (Some n) → MatchBool b (LawfulNode l.entries l.text n) (LawfulNode l.entries l.text n → ⊥) → NodeChecked l x (then_some b n)
+kept_checked l x n true at ok = (at.1, ok)
+kept_checked l x n false at not = λ lt r. not (subst (LawfulNode l.entries l.text) (one_node r.0 n (r.1 ∙ sym at.1)) r.2)
 
 -- A question of a node that is answered by it, or by a fault.
 pub node_found : (l : Layout) (x : ℕ) (o : Option Node) (n : Node) → NodeChecked l x o → o ≡ Some n → (record_of n ≡ record_at l.rows x) × LawfulNode l.entries l.text n

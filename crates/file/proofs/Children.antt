@@ -1,11 +1,8 @@
 -- A node's children, as the file names them.
-use Rattle.std.proofs.Common.{◌≡◌, ℕ, zero, suc, ◌+◌, ◌-◌, ◌*◌, ◌<◌, ◌≤◌, List, [], ◌∷◌, ◌++◌, length, take, drop, Some, None, sym, refl, ap, ◌∙◌, arith, length-append, length-take}
+use Rattle.std.proofs.Common.{◌≡◌, ℕ, zero, suc, ◌+◌, ◌-◌, ◌*◌, ◌<◌, ◌≤◌, List, [], ◌∷◌, ◌++◌, length, take, drop, Some, refl, ap, ◌∙◌, arith, length-append, length-take}
 use Rattle.std.specs.List.{slice_get}
-use Rattle.std.proofs.lemmas.Option.{slice_get_past}
 use Rattle.tree.specs.declared.node.Node.{Node}
-use Rattle.tree.specs.declared.role.Child.TheVariants.{Entry}
 use Rattle.tree.specs.Heap.{links, list_of, cut, children}
-use Rattle.tree.specs.Roles.{NamesChild}
 use Rattle.file.specs.Format.{word, words}
 
 nth_take : {X : Type 0} (n : ℕ) (xs : List X) (k : ℕ) → k < n → slice_get (take n xs) k ≡ slice_get xs k
@@ -34,17 +31,3 @@ pub children_most : (es : List ℕ) (n : Node) → length (children es n) ≤ le
 children_most es n =
     let len : length (cut es (list_of n).start (list_of n).len) ≤ (list_of n).len = simp length-take (omega arith) in
     omega (arith, length-append (links n) (cut es (list_of n).start (list_of n).len), len)
-
-module _ (es : List ℕ) (n : Node) (k : ℕ) where
-  -- A child that is named by an entry.
-  pub entry_is : (i : ℕ) → NamesChild n k (Some (Entry i)) → slice_get (children es n) k ≡ slice_get es i
-  entry_is i c =
-      let start = (list_of n).start in
-      let len = (list_of n).len in
-      nth_right (links n) (cut es start len) k c.0
-      ∙ nth_take len (drop start es) (k - length (links n)) (omega (arith, c.0, c.1))
-      ∙ nth_drop start es (k - length (links n))
-      ∙ ap (slice_get es) (sym c.2)
-
-  pub no_child : NamesChild n k None → slice_get (children es n) k ≡ None
-  no_child le = slice_get_past (children es n) k (omega (arith, children_most es n, le))

@@ -2,6 +2,7 @@
 use Rattle.std.proofs.Common.{◌≡◌, ℕ, zero, suc, ◌+◌, ◌<◌, ◌≤◌, true, List, [], ◌∷◌, map, length, Some, None, Option, sym, refl, ap, ◌∙◌, arith}
 use Rattle.std.specs.List.{slice_get}
 use Rattle.std.proofs.lemmas.List.{length-map}
+use Rattle.std.proofs.lemmas.Option.{slice_get-map}
 use Rattle.std.specs.Option.{option_map}
 use Rattle.tree.specs.declared.node.Node.{Node}
 use Rattle.tree.specs.Heap.{Held, look, read, own, children, inside}
@@ -21,11 +22,6 @@ nth_records rows x (suc n) (suc k) lt = let e : suc x + k ≡ x + suc k = omega 
 pub length_records : (rows : List ℕ) (x n : ℕ) → length (records rows x n) ≡ n
 length_records rows x zero = refl
 length_records rows x (suc n) = ap suc (length_records rows (suc x) n)
-
-nth_map : {X Y : Type 0} (f : X → Y) (xs : List X) (k : ℕ) → slice_get (map f xs) k ≡ option_map f (slice_get xs k)
-nth_map f [] k = refl
-nth_map f (x ∷ xs) zero = refl
-nth_map f (x ∷ xs) (suc k) = nth_map f xs k
 
 -- The nodes of the records from x on.
 nodes_from : (l : Layout) (x n : ℕ) → ((y : ℕ) → x ≤ y → y < x + n → LawfulRecord l y) → (ns : List Node) × (map record_of ns ≡ records l.rows x n)
@@ -48,7 +44,7 @@ pub held_there : (l : Layout) (h : Held) (x : ℕ) (n : Node) → Contents l h �
 held_there l h x n c lt e = go (slice_get h.nodes x) refl
   where
     there : option_map record_of (slice_get h.nodes x) ≡ Some (record_at l.rows x)
-    there = sym (nth_map record_of h.nodes x) ∙ ap (λ rs. slice_get rs x) c.recorded ∙ nth_records l.rows 0 l.count x lt ∙ ap (λ i. Some (record_at l.rows i)) (omega arith)
+    there = sym (slice_get-map record_of h.nodes x) ∙ ap (λ rs. slice_get rs x) c.recorded ∙ nth_records l.rows 0 l.count x lt ∙ ap (λ i. Some (record_at l.rows i)) (omega arith)
 
     go : (o : Option Node) → slice_get h.nodes x ≡ o → slice_get h.nodes x ≡ Some n
     go None f = absurd (let g : ◌≡◌ {A = Option Record} None (Some (record_at l.rows x)) = ap (option_map record_of) (sym f) ∙ there in let z : ◌≡◌ {A = ℕ} 0 1 = cc in omega arith)
@@ -70,7 +66,7 @@ row_there l h x n c lt e ok =
 pub recorded_there : (l : Layout) (h : Held) (x : ℕ) (n : Node) → Contents l h → x < l.count → slice_get h.nodes x ≡ Some n → record_of n ≡ record_at l.rows x
 recorded_there l h x n c lt e =
     let f : ◌≡◌ {A = Option Record} (Some (record_of n)) (Some (record_at l.rows (0 + x))) =
-    ap (option_map record_of) (sym e) ∙ sym (nth_map record_of h.nodes x) ∙ ap (λ rs. slice_get rs x) c.recorded ∙ nth_records l.rows 0 l.count x lt in
+    ap (option_map record_of) (sym e) ∙ sym (slice_get-map record_of h.nodes x) ∙ ap (λ rs. slice_get rs x) c.recorded ∙ nth_records l.rows 0 l.count x lt in
     let g : record_of n ≡ record_at l.rows (0 + x) = cc in
     g ∙ ap (record_at l.rows) (omega arith)
 

@@ -14,7 +14,7 @@ pub sized : (file : List ℕ) (h : Header) → h ≡ header_of file → InLimits
 sized file h is limits place =
     let l = subst InLimits is limits in
     let p = subst (λ g. InPlace g (length file)) is place in
-    record { some_node = l.0; few_nodes = l.1; few_entries = l.2; little_text = l.3; nodes_first = p.0; entries_next = p.1; text_last = p.2; whole = p.3 }
+    record { some_node = l.0; few_nodes = l.1; few_entries = l.2; little_text = l.3; nodes_first = p.0; entries_next = p.1; text_last = p.2; whole = omega (arith, p.3) }
 
 -- The layout that a header shows.
 abbrev of_header : List ℕ → Header → Layout

@@ -7,7 +7,7 @@ use Rattle.tree.specs.Tree.{same}
 use Rattle.tree.specs.Heap.{children}
 use Rattle.tree.specs.Roles.{role_of_node}
 use Rattle.tree.specs.Laws.{count}
-use Rattle.tree.proofs.Cuts.{nth_low}
+use Rattle.std.proofs.lemmas.Option.{slice_get_within}
 use Rattle.file.specs.Layout.{Layout}
 use Rattle.file.specs.Steps.{Reached, AllReached}
 use Rattle.file.proofs.Tallied.{tallied_as, count_more}
@@ -68,11 +68,11 @@ module _ (l : Layout) (x : ℕ) (n : Node) (old : List ℕ) where
     )
       where
         when_past : (b : Bool) → MatchBool b (ReachedBelow l x n k) (AllReached l x n → ⊥) → MatchBool b (ReachedBelow l x n (k + 1)) (AllReached l x n → ⊥)
-        when_past true v = λ j c lt at. v j c (omega (arith, nth_low (children l.entries n) j c at)) at
+        when_past true v = λ j c lt at. v j c (omega (arith, slice_get_within (children l.entries n) j c at)) at
         when_past false v = v
 
   when_all : (k : ℕ) → length (children l.entries n) ≤ k → (b : Bool) → MatchBool b (ReachedBelow l x n k) (AllReached l x n → ⊥) → MatchBool b (AllReached l x n) (AllReached l x n → ⊥)
-  when_all k le true w = λ j c at. w j c (omega (arith, nth_low (children l.entries n) j c at)) at
+  when_all k le true w = λ j c at. w j c (omega (arith, slice_get_within (children l.entries n) j c at)) at
   when_all k le false w = w
 
   pub follow_all : (new : List ℕ) (k : ℕ) (b : Bool) → length (children l.entries n) ≤ k → Followed l x n old new k b

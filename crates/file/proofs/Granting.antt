@@ -6,7 +6,7 @@ use Rattle.base.proofs.Asking.{granted_both, granted_apart, granted_each, each_g
 use Rattle.store.specs.declared.stores.Counts.{Counts}
 use Rattle.tree.specs.declared.node.Node.{Node}
 use Rattle.tree.specs.Heap.{Held}
-use Rattle.tree.proofs.Cuts.{nth_low}
+use Rattle.std.proofs.lemmas.Option.{slice_get_within}
 use Rattle.file.specs.Layout.{Layout, layout}
 use Rattle.file.specs.Lawful.{Contents, LawfulNode, LawfulRecord, LawfulRoot, LawfulLinks, LinkedAt, RootAt, LawfulHeld, LawfulFile, Fits, record_questions, link_questions, load_questions}
 use Rattle.file.specs.Laws.{LawfulExactlyWhereGranted}
@@ -21,7 +21,7 @@ pub held_lawful : (l : Layout) (h : Held) → Contents l h → AllRecords l → 
 held_lawful l h c all links =
     record {
       nodes_lawful = λ x n e.
-          let lt : x < l.count = omega (arith, nth_low h.nodes x n e, how_many l h c) in
+          let lt : x < l.count = omega (arith, slice_get_within h.nodes x n e, how_many l h c) in
           subst (λ es. LawfulNode es h.text n) (sym c.listed) (subst (λ t. LawfulNode l.entries t n) (sym c.texted) (lawful_there l x (all x lt) n (recorded_there l h x n c lt e)));
       root_lawful = links.0 h c;
       links_lawful = λ x lt. links.1 x (omega (arith, how_many l h c)) h c;

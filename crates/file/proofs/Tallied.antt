@@ -1,5 +1,5 @@
 -- Counting parents in a table, and the lowest wrong node.
-use Rattle.std.proofs.Common.{◌≡◌, ◌≢◌, ◌≤◌, MatchOption, eqb, Bool, true, false, not, ◌&&◌, IsTrue, length, ℕ, zero, suc, ◌+◌, ◌<◌, min, ◌⊎◌, List, [], ◌∷◌, get_or, take, replicate, Some, None, Option, sym, refl, ap, ◌∙◌, subst, inl, inr, arith}
+use Rattle.std.proofs.Common.{◌≡◌, ◌≢◌, ◌≤◌, MatchOption, eqb, Bool, true, false, not, ◌&&◌, IsTrue, length, ℕ, zero, suc, ◌+◌, ◌<◌, min, List, [], ◌∷◌, get_or, take, replicate, Some, None, Option, sym, refl, ap, ◌∙◌, arith, below_more}
 use Rattle.std.specs.List.{slice_get}
 use Rattle.tree.specs.Tree.{same}
 use Rattle.tree.specs.Laws.{count}
@@ -21,20 +21,7 @@ count_more (x ∷ ks) (suc k) c y e =
 
 -- The lowest number of which P does not hold, one number further.
 pub lowest_kept : (P : ℕ → Type 0) (n : ℕ) (o : Option ℕ) → Lowest P n o → P n → Lowest P (n + 1) o
-lowest_kept P n None low here = λ y lt. go y (cases y lt)
-  where
-    cases : (y : ℕ) → y < n + 1 → (y < n) ⊎ (y ≡ n)
-    cases y lt = last_or y n lt
-      where
-        last_or : (y n : ℕ) → y < n + 1 → (y < n) ⊎ (y ≡ n)
-        last_or zero zero l = inr refl
-        last_or zero (suc m) l = inl (omega arith)
-        last_or (suc z) zero l = absurd (omega arith)
-        last_or (suc z) (suc m) l = elim (last_or z m (omega arith)) [ inl a ↦ inl (omega arith) | inr b ↦ inr (ap suc b) ]
-
-    go : (y : ℕ) → (y < n) ⊎ (y ≡ n) → P y
-    go y (inl a) = low y a
-    go y (inr b) = subst P (sym b) here
+lowest_kept P n None low here = below_more P n low here
 lowest_kept P n (Some x) low here = (omega (arith, low.0), low.1, low.2)
 
 pub lowest_found : (P : ℕ → Type 0) (n : ℕ) → Lowest P n None → (P n → ⊥) → Lowest P (n + 1) (Some n)

@@ -3,19 +3,12 @@ use Rattle.std.proofs.lemmas.Grind.{merely}
 use Rattle.base.specs.Questions.{Refuses}
 use Rattle.file.specs.Lawful.{load_questions}
 use Rattle.file.specs.Steps.{Checked}
-use Rattle.file.proofs.Answering.{copy_space, payoff, loads}
+use Rattle.file.proofs.Answering.{payoff, loads}
 use Rattle.file.proofs.Tallied.{zeros}
 use Rattle.file.proofs.loaded.loading.load.Goals as goal
 
 pub check-requires : goal.check-requires
 check-requires c = zeros 4096
-
-pub copy_to-requires : goal.copy_to-requires
-copy_to-requires c =
-    let file = c.args.file.now in
-    let old = c.args.stores in
-    let r = c.in-Ok.records in
-    copy_space file old old r (subst (λ rooms. Checked file rooms (Ok r)) c.rooms.ensures c.in-Ok.ensures)
 
 pub invariant_of-result : goal.invariant_of-result
 invariant_of-result c =

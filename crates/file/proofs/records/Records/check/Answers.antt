@@ -1,4 +1,4 @@
-use Rattle.std.proofs.Common.{◌≡◌, ◌+◌, length, refl, sym, ◌∙◌, subst, arith, below_more}
+use Rattle.std.proofs.Common.{◌≡◌, ◌+◌, length, sym, ◌∙◌, subst, arith, below_more}
 use Rattle.std.proofs.lemmas.Grind.{merely}
 use Rattle.std.proofs.lemmas.Result.{err_from_is_err_and}
 use Rattle.file.specs.Found.{laid, CountsParents}
@@ -42,6 +42,3 @@ invariant_of-result c =
       long = c.loop-x.auto.parents ∙ c.requires.long;
       counted = merely (λ h cs. subst (λ n. CountsParents h n c.loop-x.parents c.loop-x.wrong) all (c.loop-x.invariant.1 h cs));
     }
-
-pub returns : goal.returns
-returns c = (refl, λ x lt. c.loop-x.invariant.0 x (omega (arith, c.loop-x-test.false)))

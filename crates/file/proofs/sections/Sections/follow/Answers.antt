@@ -3,12 +3,9 @@ use Rattle.tree.specs.Heap.{children}
 use Rattle.file.specs.Found.{laid}
 use Rattle.file.specs.Steps.{Reached}
 use Rattle.file.proofs.Children.{children_most}
-use Rattle.file.proofs.Following.{Followed, nth_none, follow_none, follow_more, follow_past, follow_all}
+use Rattle.file.proofs.Following.{Followed, nth_none, follow_more, follow_past, follow_all}
 use Rattle.file.proofs.sections.Sections.follow.Goals as goal
 use Rattle.file.proofs.sections.Sections.follow.Goals.{in-Some, in_default}
-
-pub loop-k-init : goal.loop-k-init
-loop-k-init c = follow_none (laid c.args.self.now) c.args.x c.args.node c.args.parents.now
 
 pub loop-k-preserved : goal.loop-k-preserved
 loop-k-preserved c =
