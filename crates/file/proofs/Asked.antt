@@ -1,6 +1,7 @@
 -- Asking one question of each node.
-use Rattle.std.proofs.Common.{Bool, true, false, MatchBool, ◌≡◌, ℕ, ◌<◌, Ok, Err, Result, Some, None, Option, sym, refl, ◌∙◌, subst, arith}
+use Rattle.std.proofs.Common.{Bool, true, false, MatchBool, ◌≡◌, ℕ, ◌<◌, Ok, Err, Result, IsOk, Some, None, Option, sym, refl, ◌∙◌, subst, arith}
 use Rattle.std.specs.Option.{ok_or}
+use Rattle.std.proofs.lemmas.Grind.{not_there}
 use Rattle.base.specs.declared.fault.Fault.{Fault}
 use Rattle.base.specs.declared.fault.Fault.TheVariants.{BadRecord}
 use Rattle.base.specs.Questions.{Refuses}
@@ -15,7 +16,7 @@ use Rattle.file.proofs.OneNode.{one_node}
 use Rattle.file.specs.Format.{record_at, record_of}
 use Rattle.file.specs.Layout.{Layout}
 use Rattle.file.specs.Lawful.{LawfulNode, LawfulRecord, record_questions}
-use Rattle.file.specs.Found.{RecordsTo}
+use Rattle.file.specs.Found.{RecordsTo, AllRecords}
 use Rattle.file.specs.Steps.{NodeAt, NodeChecked}
 
 pub record_refused : (l : Layout) (x : ℕ) → x < l.count → RecordsTo l x → (LawfulRecord l x → ⊥) → Refuses (record_questions l) (BadRecord x)
@@ -25,6 +26,11 @@ record_refused l x lt low not = refuses_each 4 (LawfulRecord l) (BadRecord x) 0 
 pub node_at : (l : Layout) (x : ℕ) (r : Record) (found : Result Node UnknownRecord) → x < l.count → r ≡ record_at l.rows x → Decodes r found → NodeAt l x (result_ok found)
 node_at l x r (Ok n) lt e w = (lt, w ∙ e)
 node_at l x r (Err u) lt e w = λ _ n f. w n (f ∙ sym e)
+
+-- A record has a node, where all are lawful.
+pub decoded : (l : Layout) (x : ℕ) (r : Record) (found : Result Node UnknownRecord) → ∥ AllRecords l ∥₁ → x < l.count → r ≡ record_at l.rows x → Decodes r found → IsOk found
+decoded l x r (Ok n) all lt e w = refl
+decoded l x r (Err u) all lt e w = absurd (not_there all (λ a. let q = a x lt in w q.0 (q.1 ∙ sym e)))
 
 -- It is kept where it is lawful.
 pub kept_checked : (l : Layout) (x : ℕ) (n : Node) (b : Bool) → NodeAt l x (Some n) → MatchBool b (LawfulNode l.entries l.text n) (LawfulNode l.entries l.text n → ⊥) → NodeChecked l x (then_some b n)

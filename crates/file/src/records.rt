@@ -109,9 +109,8 @@ impl<'a, 't> Records<'a, 't> {
     {
         nodes.clear();
         for record in self.sections.nodes {
-            if let Ok(node) = Node::try_from(Record::from(record)) {
-                let _ = nodes.append(&[node]);
-            }
+            let node = Node::try_from(Record::from(record)).unwrap();
+            nodes.append(&[node]).unwrap();
         }
     }
 
@@ -122,7 +121,7 @@ impl<'a, 't> Records<'a, 't> {
     {
         entries.clear();
         for entry in self.sections.entries {
-            let _ = entries.append(&[word(entry, 0)]);
+            entries.append(&[word(entry, 0)]).unwrap();
         }
     }
 
@@ -132,6 +131,6 @@ impl<'a, 't> Records<'a, 't> {
         ensures { Refilled text.old (laid self.now.sections).text text.new }
     {
         text.clear();
-        let _ = text.append(self.sections.text);
+        text.append(self.sections.text).unwrap();
     }
 }

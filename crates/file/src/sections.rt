@@ -5,6 +5,8 @@ ghost use Rattle.tree.specs.Heap.{within, children};
 ghost use Rattle.tree.specs.Laws.{count};
 ghost use Rattle.tree.specs.Lawful.{Finite, LawfulOwn};
 ghost use Rattle.tree.specs.Tree.{same, opaque};
+ghost use Rattle.file.specs.declared.header.TheConstants.{MAX_NODES};
+ghost use Rattle.file.specs.declared.record.TheConstants.{RECORD};
 ghost use Rattle.file.specs.Arrays.{AllOfLength};
 ghost use Rattle.file.specs.Tables.{Tallies};
 
@@ -24,8 +26,8 @@ pub struct Sections<'a> {
     pub entries: &'a [[u8; WORD]],
     pub text: &'a [u8],
     ghost some_node: { 1 ≤ length nodes.now },
-    ghost few_nodes: { length nodes.now ≤ 4096 },
-    ghost whole_records: { AllOfLength 20 nodes.now },
+    ghost few_nodes: { length nodes.now ≤ MAX_NODES },
+    ghost whole_records: { AllOfLength RECORD nodes.now },
 }
 
 impl<'a> Sections<'a> {

@@ -1,32 +1,43 @@
-use Rattle.std.proofs.Common.{◌+◌, Some, map, length, get_or, drop, ◌++◌, [], sym, ap, ◌∙◌, subst, arith, take_all}
+use Rattle.std.proofs.Common.{Some, map, length, get_or, drop, ◌++◌, [], ◌∷◌, sym, ap, ◌∙◌, subst, arith, take_all}
 use Rattle.std.proofs.lemmas.Option.{slice_get-map, slice_get-get_or}
 use Rattle.std.proofs.lemmas.List.{length-map}
-use Rattle.std.proofs.lemmas.Grind.{not_there}
 use Rattle.std.specs.Option.{option_map}
+use Rattle.store.specs.Held.{AppendsTo}
+use Rattle.file.specs.Decoding.{Decodes}
+use Rattle.file.specs.Found.{laid}
 use Rattle.file.specs.Format.{record_at}
 use Rattle.file.proofs.Chunks.{record_of_array, records_of_arrays}
-use Rattle.file.proofs.Copied.{NodesUpTo, next_node}
+use Rattle.file.proofs.Copied.{node_fits, next_node}
+use Rattle.file.proofs.Asked.{decoded}
 use Rattle.file.proofs.records.Records.copy_nodes.Goals as goal
-use Rattle.file.proofs.records.Records.copy_nodes.Goals.{in-Ok, in_default}
+
+pub unwrap-node-requires : goal.unwrap-node-requires
+unwrap-node-requires c =
+    let s = c.args.self.now.sections in
+    let x = c.loop-record.record-index in
+    decoded (laid s) x c.from.result c.try_from.result c.args.self.now.lawful c.loop-record-test.true
+    (c.from.ensures ∙ sym (record_of_array s.nodes.now s.whole_records x (get_or s.nodes.now x []) (slice_get-get_or s.nodes.now x [] c.loop-record-test.true)))
+    c.try_from.ensures
+
+pub unwrap-requires : goal.unwrap-requires
+unwrap-requires c =
+    let nodes = c.args.self.now.sections.nodes.now in
+    let many = length-map nodes (λ bytes. record_at bytes 0) in
+    node_fits (map (λ bytes. record_at bytes 0) nodes) c.loop-record.record-index c.unwrap-node.result c.clear.new.self c.loop-record.nodes c.append.new.self c.append.result c.loop-record.invariant
+    (omega (arith, many)) (omega (arith, many, ap length c.clear.ensures.memory)) c.append.ensures
 
 pub loop-record-preserved : goal.loop-record-preserved
 loop-record-preserved c =
     let s = c.args.self.now.sections in
     let x = c.loop-record.record-index in
     let records = map (λ bytes. record_at bytes 0) s.nodes.now in
-    let old = c.clear.new.self in
-    let at = slice_get-get_or s.nodes.now x [] c.loop-record-test.true in
-    elim c.match-try_from.branch [
-      | in-Ok w ↦
-          subst (NodesUpTo records (x + 1) old) (sym w.nodes-is)
-          (next_node records x w.in-Ok.node old c.loop-record.nodes w.append.new.self w.append.result c.loop-record.invariant
-          (slice_get-map (λ bytes. record_at bytes 0) s.nodes.now x ∙ ap (option_map (λ bytes. record_at bytes 0)) at ∙ ap (λ r. Some r) (sym c.from.ensures ∙ sym w.in-Ok.ensures))
-          w.append.ensures (omega (arith, length-map s.nodes.now (λ bytes. record_at bytes 0), ap length c.clear.ensures.memory)))
-      | in_default w ↦
-          absurd (not_there c.args.self.now.lawful (λ all.
-          let r = all x c.loop-record-test.true in
-          w.in_default.ensures r.0 (r.1 ∙ record_of_array s.nodes.now s.whole_records x (get_or s.nodes.now x []) at ∙ sym c.from.ensures)))
-    ]
+    let n = c.unwrap-node.result in
+    let recorded = subst (Decodes c.from.result) c.unwrap-node.ensures c.try_from.ensures in
+    next_node records x n c.clear.new.self c.loop-record.nodes c.append.new.self c.unwrap.result c.loop-record.invariant
+    (slice_get-map (λ bytes. record_at bytes 0) s.nodes.now x
+    ∙ ap (option_map (λ bytes. record_at bytes 0)) (slice_get-get_or s.nodes.now x [] c.loop-record-test.true)
+    ∙ ap (λ r. Some r) (sym c.from.ensures ∙ sym recorded))
+    (subst (AppendsTo c.loop-record.nodes (n ∷ []) c.append.new.self) c.unwrap.ensures c.append.ensures)
 
 pub returns : goal.returns
 returns c =
