@@ -3,7 +3,7 @@ use Rattle.std.proofs.Common.{◌≡◌, ℕ, suc, ◌<◌, Bool, true, false, L
 use Rattle.std.proofs.lemmas.Bool.{cases_Bool}
 use Rattle.std.proofs.lemmas.Grind.{not_there}
 use Rattle.tree.specs.declared.node.Node.{Node}
-use Rattle.tree.specs.declared.node.Node.TheVariants.{String, Number, Boolean, Null, Name, Hole, Spread, Array, StaticMember, ComputedMember, Call, Template, Quasi, Unary, Binary, Opaque}
+use Rattle.tree.specs.declared.node.Node.TheVariants.{String}
 use Rattle.tree.specs.declared.role.Sort.TheVariants.{IsExpression}
 use Rattle.tree.specs.Heap.{Held, look, own, children, inside}
 use Rattle.tree.specs.Lawful.{sort_of, role, admits, AdmitsRow}
@@ -20,39 +20,11 @@ use Rattle.file.proofs.Contained.{holding, how_many, row_there}
 
 pub sort_own : (bytes : List ℕ) (n : Node) → sort_of (own bytes n) ≡ sort_of_node n
 sort_own bytes (String t) = refl
-sort_own bytes (Number k) = refl
-sort_own bytes (Boolean b) = refl
-sort_own bytes Null = refl
-sort_own bytes (Name t) = refl
-sort_own bytes Hole = refl
-sort_own bytes (Spread x) = refl
-sort_own bytes (Array es) = refl
-sort_own bytes (StaticMember x p) = refl
-sort_own bytes (ComputedMember x k) = refl
-sort_own bytes (Call f es) = refl
-sort_own bytes (Template es) = refl
-sort_own bytes (Quasi r c) = refl
-sort_own bytes (Unary op x) = refl
-sort_own bytes (Binary op x y) = refl
-sort_own bytes (Opaque es m f) = refl
+sort_own bytes n = refl
 
 role_own : (bytes : List ℕ) (n : Node) (k : ℕ) → role (own bytes n) k ≡ role_of_node n k
 role_own bytes (String t) k = refl
-role_own bytes (Number i) k = refl
-role_own bytes (Boolean b) k = refl
-role_own bytes Null k = refl
-role_own bytes (Name t) k = refl
-role_own bytes Hole k = refl
-role_own bytes (Spread x) k = refl
-role_own bytes (Array es) k = refl
-role_own bytes (StaticMember x p) k = refl
-role_own bytes (ComputedMember x y) k = refl
-role_own bytes (Call f es) k = refl
-role_own bytes (Template es) k = refl
-role_own bytes (Quasi r c) k = refl
-role_own bytes (Unary op x) k = refl
-role_own bytes (Binary op x y) k = refl
-role_own bytes (Opaque es m f) k = refl
+role_own bytes n k = refl
 
 -- ---- the root
 

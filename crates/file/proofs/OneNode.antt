@@ -37,20 +37,9 @@ back r =
     (Opaque (list_run r.a r.b) r.c (cond (eqb r.flag 0) Value Reference))))))))))))))))
 
 back_of : (n : Node) → back (record_of n) ≡ n
-back_of (String t) = refl
 back_of (Number bits) = let e : bits % 2 ^ 32 + bits / 2 ^ 32 * 2 ^ 32 ≡ bits = omega arith in ap (λ k. Number k) e
 back_of (Boolean true) = refl
 back_of (Boolean false) = refl
-back_of Null = refl
-back_of (Name t) = refl
-back_of Hole = refl
-back_of (Spread x) = refl
-back_of (Array es) = refl
-back_of (StaticMember x p) = refl
-back_of (ComputedMember x k) = refl
-back_of (Call f es) = refl
-back_of (Template es) = refl
-back_of (Quasi r c) = refl
 back_of (Unary Plus x) = refl
 back_of (Unary Minus x) = refl
 back_of (Unary Void x) = refl
@@ -59,6 +48,7 @@ back_of (Binary Subtraction x y) = refl
 back_of (Binary Division x y) = refl
 back_of (Opaque es m Value) = refl
 back_of (Opaque es m Reference) = refl
+back_of n = refl
 
 pub one_node : (n m : Node) → record_of n ≡ record_of m → n ≡ m
 one_node n m e = sym (back_of n) ∙ ap back e ∙ back_of m

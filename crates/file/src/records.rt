@@ -5,6 +5,7 @@ ghost use Rattle.store.specs.Stores.{rooms_of};
 ghost use Rattle.file.specs.Found.{laid, AllRecords, LinksCounted};
 ghost use Rattle.file.specs.Tables.{Lowest, Right, right};
 
+use crate::header::MAX_NODES;
 use crate::record::{Record, word};
 use crate::sections::Sections;
 use base::Fault;
@@ -30,12 +31,12 @@ impl<'a, 't> Records<'a, 't> {
     // Asks of each record whether it is that of a node which is lawful on its own. The table of zeros is for the parents.
     pub(crate) fn check(
         sections: Sections<'a>,
-        parents: &'t mut [u8],
+        table: &'t mut [u8; MAX_NODES],
     ) -> Result<Records<'a, 't>, Fault>
-        requires long { length parents.old ≡ length sections.nodes.now }
-        requires zeros { (y : ℕ) → slice_index parents.old y ≡ 0 }
+        requires { (y : ℕ) → slice_index table.old y ≡ 0 }
         ensures { ChecksRecords sections.entry result }
     {
+        let parents = &mut table[..sections.nodes.len()];
         let mut wrong = None;
         for x in 0..sections.nodes.len() {
             let node = sections.lawful_node(x).ok_or(Fault::BadRecord(x as u32))?;

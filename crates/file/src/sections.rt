@@ -27,6 +27,7 @@ pub struct Sections<'a> {
     pub text: &'a [u8],
     ghost some_node: { 1 ≤ length nodes.now },
     ghost few_nodes: { length nodes.now ≤ MAX_NODES },
+    // As the arrays' type says, for the proofs.
     ghost whole_records: { AllOfLength RECORD nodes.now },
 }
 

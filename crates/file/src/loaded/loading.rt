@@ -23,7 +23,7 @@ fn check<'a, 't>(
     if !sections.fits(rooms) {
         return Err(Fault::StoresTooSmall);
     }
-    let records = Records::check(sections, &mut table[..sections.nodes.len()])?;
+    let records = Records::check(sections, table)?;
     records.check_links()?;
     Ok(records)
 }

@@ -34,11 +34,10 @@ loop-x-preserved c =
       ],
     )
 
-pub invariant_of-result : goal.invariant_of-result
-invariant_of-result c =
+pub invariant_of-result-clause-lawful : goal.invariant_of-result-clause-lawful
+invariant_of-result-clause-lawful c = merely (λ x lt. c.loop-x.invariant.0 x (omega (arith, c.loop-x-test.false)))
+
+pub invariant_of-result-clause-counted : goal.invariant_of-result-clause-counted
+invariant_of-result-clause-counted c =
     let all : c.loop-x.x ≡ length c.args.sections.nodes.now = omega (arith, c.loop-x-test.false, c.loop-x.auto.x-end) in
-    record {
-      lawful = merely (λ x lt. c.loop-x.invariant.0 x (omega arith));
-      long = c.loop-x.auto.parents ∙ c.requires.long;
-      counted = merely (λ h cs. subst (λ n. CountsParents h n c.loop-x.parents c.loop-x.wrong) all (c.loop-x.invariant.1 h cs));
-    }
+    merely (λ h cs. subst (λ n. CountsParents h n c.loop-x.parents c.loop-x.wrong) all (c.loop-x.invariant.1 h cs))
