@@ -11,6 +11,17 @@ use Rattle.file.proofs.Copied.{node_fits, next_node}
 use Rattle.file.proofs.Asked.{decoded}
 use Rattle.file.proofs.records.Records.copy_nodes.Goals as goal
 
+pub returns : goal.returns
+returns c =
+    let s = c.args.self.now.sections in
+    let ns = c.loop-record.invariant in (
+      ns.0,
+      (ns.1.0, ns.1.1 ∙ ap (λ m. ns.0 ++ drop (length ns.0) m) c.clear.ensures.memory),
+      ns.2
+          ∙ take_all c.loop-record.record-index (map (λ bytes. record_at bytes 0) s.nodes.now) (omega (arith, length-map s.nodes.now (λ bytes. record_at bytes 0), c.loop-record-test.false))
+          ∙ sym (records_of_arrays s.nodes.now s.whole_records),
+    )
+
 pub unwrap-node-requires : goal.unwrap-node-requires
 unwrap-node-requires c =
     let s = c.args.self.now.sections in
@@ -38,14 +49,3 @@ loop-record-preserved c =
     ∙ ap (option_map (λ bytes. record_at bytes 0)) (slice_get-get_or s.nodes.now x [] c.loop-record-test.true)
     ∙ ap (λ r. Some r) (sym c.from.ensures ∙ sym recorded))
     (subst (AppendsTo c.loop-record.nodes (n ∷ []) c.append.new.self) c.unwrap.ensures c.append.ensures)
-
-pub returns : goal.returns
-returns c =
-    let s = c.args.self.now.sections in
-    let ns = c.loop-record.invariant in (
-      ns.0,
-      (ns.1.0, ns.1.1 ∙ ap (λ m. ns.0 ++ drop (length ns.0) m) c.clear.ensures.memory),
-      ns.2
-          ∙ take_all c.loop-record.record-index (map (λ bytes. record_at bytes 0) s.nodes.now) (omega (arith, length-map s.nodes.now (λ bytes. record_at bytes 0), c.loop-record-test.false))
-          ∙ sym (records_of_arrays s.nodes.now s.whole_records),
-    )
