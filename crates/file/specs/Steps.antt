@@ -18,7 +18,7 @@ use Rattle.file.specs.Lawful.{size_questions, record_questions, link_questions, 
 use Rattle.text.specs.Stored.{Lawful}
 use Rattle.template.specs.Cooked.{CooksTo}
 use Rattle.tree.specs.declared.role.Role.{Role}
-use Rattle.tree.specs.declared.node.TextRun.{TextRun}
+use Rattle.tree.specs.declared.run.Run.{Run}
 use Rattle.tree.specs.Lawful.{admits}
 use Rattle.tree.specs.declared.node.Node.{Node}
 use Rattle.tree.specs.Heap.{within, text_at, children}

@@ -73,14 +73,14 @@ impl Record {
         ensures { MatchOption result ((n : Node) → record_of n ≢ self) (λ n. record_of n ≡ self) }
     {
         match (self.kind, self.flag, self.a, self.b, self.c, self.d) {
-            (1, 0, start, len, 0, 0) => Some(Node::String(text(start, len))),
+            (1, 0, start, len, 0, 0) => Some(Node::String(TextRun::new(start, len))),
             (2, 0, low, high, 0, 0) => Some(Node::Number(high as u64 * 0x1_0000_0000 + low as u64)),
             (3, flag, 0, 0, 0, 0) => Some(Node::Boolean(bool::from_flag(flag)?)),
             (4, 0, 0, 0, 0, 0) => Some(Node::Null),
-            (5, 0, start, len, 0, 0) => Some(Node::Name(text(start, len))),
+            (5, 0, start, len, 0, 0) => Some(Node::Name(TextRun::new(start, len))),
             (6, 0, 0, 0, 0, 0) => Some(Node::Hole),
             (7, 0, operand, 0, 0, 0) => Some(Node::Spread(operand)),
-            (8, 0, start, len, 0, 0) => Some(Node::Array(list(start, len))),
+            (8, 0, start, len, 0, 0) => Some(Node::Array(ListRun::new(start, len))),
             _ => None,
         }
     }
@@ -93,17 +93,17 @@ impl Record {
         match (self.kind, self.flag, self.a, self.b, self.c, self.d) {
             (9, 0, object, start, len, 0) => Some(Node::StaticMember {
                 object,
-                name: text(start, len),
+                name: TextRun::new(start, len),
             }),
             (10, 0, object, key, 0, 0) => Some(Node::ComputedMember { object, key }),
             (11, 0, callee, start, len, 0) => Some(Node::Call {
                 callee,
-                arguments: list(start, len),
+                arguments: ListRun::new(start, len),
             }),
-            (12, 0, start, len, 0, 0) => Some(Node::Template(list(start, len))),
+            (12, 0, start, len, 0, 0) => Some(Node::Template(ListRun::new(start, len))),
             (13, 0, a, b, c, d) => Some(Node::Quasi {
-                raw: text(a, b),
-                cooked: text(c, d),
+                raw: TextRun::new(a, b),
+                cooked: TextRun::new(c, d),
             }),
             (14, flag, operand, 0, 0, 0) => Some(Node::Unary {
                 operator: UnaryOperator::from_flag(flag)?,
@@ -115,29 +115,13 @@ impl Record {
                 right,
             }),
             (16, flag, start, len, mark, 0) => Some(Node::Opaque {
-                children: list(start, len),
+                children: ListRun::new(start, len),
                 mark,
                 first: FirstChild::from_flag(flag)?,
             }),
             _ => None,
         }
     }
-}
-
-// The text of `len` bytes from `start` on.
-fn text(start: u32, len: u32) -> TextRun
-    ensures start { result.start ≡ start }
-    ensures len { result.len ≡ len }
-{
-    TextRun { start, len }
-}
-
-// The list of `len` entries from `start` on.
-fn list(start: u32, len: u32) -> ListRun
-    ensures start { result.start ≡ start }
-    ensures len { result.len ≡ len }
-{
-    ListRun { start, len }
 }
 
 // What the flag of a record stands for.
