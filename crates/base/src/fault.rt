@@ -1,22 +1,24 @@
 ghost use Rattle.std.specs.Prelude.{◌≡◌};
 ghost use Rattle.base.specs.Faults.{number, layer, node};
 
+use thiserror::Error;
+
 // Why a call was refused.
-#[derive(Clone, Copy, PartialEq, Eq, Debug)]
+#[derive(Clone, Copy, PartialEq, Eq, Debug, Error)]
 pub enum Fault {
-    // The file is shorter than its header, or of another version.
+    #[error("the file is shorter than a header, or of another version")]
     BadHeader,
-    // The file's counts are out of range, or its sections do not fit its length.
+    #[error("its counts are out of range, or its sections do not fill it")]
     BadSizes,
-    // The stores are too small for the file.
+    #[error("the stores are too small for the file")]
     StoresTooSmall,
-    // The record of the node is unlawful on its own.
+    #[error("the record of node {0} is unlawful on its own")]
     BadRecord(u32),
-    // The root is wrong, or the node has a wrong link or a wrong number of parents.
+    #[error("the root is wrong, or node {0} has a wrong link or a wrong number of parents")]
     BadLink(u32),
-    // The text is not lawful, or the raw template text is malformed.
+    #[error("the text is unlawful, or the raw template text malformed")]
     Malformed,
-    // The output is too small.
+    #[error("the output is too small")]
     Overfull,
 }
 
