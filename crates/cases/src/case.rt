@@ -2,15 +2,27 @@
 use super::memory::Memory;
 use super::printing::Shown;
 use file::{Loaded, load};
-use script::{Answer, Flaw, bytes_of, number_of};
+use script::{Answer, Flaw, bytes_of, number_of, words_of};
 use std::alloc::{AllocError, Global};
-use std::str::from_utf8;
+use std::fmt;
+use std::str::FromStr;
 use store::Counts;
 
 // A call on a loaded file.
 #[derive(Clone, Copy)]
 enum CaseCall {
     Tree,
+}
+
+impl FromStr for CaseCall {
+    type Err = Flaw;
+
+    fn from_str(word: &str) -> Result<CaseCall, Flaw> {
+        match word {
+            "tree" => Ok(CaseCall::Tree),
+            _ => Err(Flaw::Malformed),
+        }
+    }
 }
 
 // What a `case` line asks for. No call looks at the two switches yet.
@@ -26,10 +38,7 @@ pub struct Case {
 impl Case {
     // Reads a line, with one space between words.
     pub fn parse(heap: Global, line: &[u8]) -> Result<Case, Flaw> {
-        let Ok(line) = from_utf8(line) else {
-            return Err(Flaw::Malformed);
-        };
-        let words: Vec<&str> = line.split(' ').collect(heap)?;
+        let words = words_of(heap, line)?;
         let ["case", file, rooms, templates, power, calls @ ..] = words.as_slice() else {
             return Err(Flaw::Malformed);
         };
@@ -38,7 +47,10 @@ impl Case {
             rooms: rooms_of(heap, rooms)?,
             templates: switch_of(templates)?,
             power: switch_of(power)?,
-            calls: calls_of(heap, calls)?,
+            calls: calls
+                .iter()
+                .map(|word| word.parse())
+                .collect::<Result<Vec<CaseCall>, Flaw>>(heap)??,
         })
     }
 
@@ -46,30 +58,40 @@ impl Case {
     pub fn run(&self, heap: Global) -> Result<String, AllocError> {
         let mut memory = Memory::new(heap, self.rooms)?;
         match load(self.file.as_slice(), memory.stores()) {
-            Ok(loaded) => self.outcome(heap, &loaded),
+            Ok(loaded) => format!(in heap;
+                "{}",
+                Outcome {
+                    calls: self.calls.as_slice(),
+                    loaded: &loaded
+                }
+            ),
             Err(refused) => format!(in heap; "{}", Answer::Refused(refused.fault)),
         }
     }
+}
 
-    // What the calls make of a loaded file.
-    fn outcome(&self, heap: Global, loaded: &Loaded<'_>) -> Result<String, AllocError> {
-        let mut line = String::from_str(heap, "loaded")?;
-        for call in self.calls.as_slice() {
+// What the calls make of a loaded file.
+#[derive(Drop)]
+struct Outcome<'c, 's, 'a> {
+    calls: &'c [CaseCall],
+    loaded: &'s Loaded<'a>,
+}
+
+impl fmt::Display for Outcome<'_, '_, '_> {
+    fn fmt<W: fmt::Write>(&self, f: &mut fmt::Formatter<W>) -> fmt::Result {
+        f.write_str("loaded")?;
+        for call in self.calls {
             match call {
-                CaseCall::Tree => {
-                    let tree = Shown::new(loaded);
-                    line.push_str(format!(in heap; "; {tree}")?.as_str())?;
-                }
+                CaseCall::Tree => write!(f, "; {}", Shown::new(self.loaded))?,
             }
         }
-        let root = loaded.root();
+        let root = self.loaded.root();
         let Counts {
             nodes,
             entries,
             text,
-        } = loaded.stores().counts();
-        line.push_str(format!(in heap; "; end {root} 0 {nodes} {entries} {text}")?.as_str())?;
-        Ok(line)
+        } = self.loaded.stores().counts();
+        write!(f, "; end {root} 0 {nodes} {entries} {text}")
     }
 }
 
@@ -93,16 +115,4 @@ fn switch_of(word: &str) -> Result<bool, Flaw> {
         "1" => Ok(true),
         _ => Err(Flaw::Malformed),
     }
-}
-
-// The calls that the words name.
-fn calls_of(heap: Global, words: &[&str]) -> Result<Vec<CaseCall>, Flaw> {
-    let mut calls = Vec::new(heap);
-    for word in words {
-        match *word {
-            "tree" => calls.push(CaseCall::Tree)?,
-            _ => return Err(Flaw::Malformed),
-        }
-    }
-    Ok(calls)
 }

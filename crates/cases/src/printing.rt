@@ -23,135 +23,141 @@ impl<'s, 'a> Shown<'s, 'a> {
 
 impl fmt::Display for Shown<'_, '_> {
     fn fmt<W: fmt::Write>(&self, f: &mut fmt::Formatter<W>) -> fmt::Result {
-        show(f, self.stores, self.root, self.stores.counts().nodes)
+        match Place::of(self.stores, self.root) {
+            Some(root) => root.show(f, self.stores.counts().nodes),
+            None => Ok(()),
+        }
     }
 }
 
-// Writes the tree of the node n: what stands before its children, the children, and what stands behind them. No path in
-// a loaded tree has more nodes than there are, so that `fuel` lasts.
-fn show<W: fmt::Write>(
-    f: &mut fmt::Formatter<W>,
-    stores: &Stores<'_>,
-    n: u32,
-    fuel: usize,
-) -> fmt::Result {
-    let Some(node) = stores.node(n) else {
-        return Ok(());
-    };
-    open(f, stores, node)?;
-    if fuel > 0 {
-        for k in 0..node.child_count() {
-            if let Some(child) = child_of(stores, node, k) {
-                separate(f, node, k)?;
-                show(f, stores, child, fuel - 1)?;
+// A node of a loaded tree.
+#[derive(Clone, Copy)]
+struct Place<'s, 'a> {
+    stores: &'s Stores<'a>,
+    node: Node,
+}
+
+impl<'s, 'a> Place<'s, 'a> {
+    // The node n, if there is one.
+    fn of(stores: &'s Stores<'a>, n: u32) -> Option<Place<'s, 'a>> {
+        Some(Place {
+            stores,
+            node: stores.node(n)?,
+        })
+    }
+
+    // The node's child k.
+    fn child(self, k: usize) -> Option<Place<'s, 'a>> {
+        let number = match self.node.child(k)? {
+            Child::Link(number) => number,
+            Child::Entry(i) => self.stores.entries.get(i)?,
+        };
+        Place::of(self.stores, number)
+    }
+
+    // Writes the tree of the node: what stands before its children, the children, and what stands behind them. No path in
+    // a loaded tree has more nodes than there are, so that `fuel` lasts.
+    fn show<W: fmt::Write>(self, f: &mut fmt::Formatter<W>, fuel: usize) -> fmt::Result {
+        self.open(f)?;
+        if fuel > 0 {
+            for k in 0..self.node.child_count() {
+                if let Some(child) = self.child(k) {
+                    self.separate(f, k)?;
+                    child.show(f, fuel - 1)?;
+                }
             }
         }
+        self.close(f)
     }
-    close(f, stores, node)
-}
 
-// The number of the node's child k.
-fn child_of(stores: &Stores<'_>, node: Node, k: usize) -> Option<u32> {
-    match node.child(k)? {
-        Child::Link(number) => Some(number),
-        Child::Entry(i) => stores.entries.get(i),
-    }
-}
-
-// Writes a leaf, or what stands before the children of any other node.
-fn open<W: fmt::Write>(f: &mut fmt::Formatter<W>, stores: &Stores<'_>, node: Node) -> fmt::Result {
-    match node {
-        Node::String(text) => write_text(f, stores, "s:", text),
-        Node::Number(bits) => write!(f, "n:{bits:016x}"),
-        Node::Boolean(value) => write!(f, "{value}"),
-        Node::Null => f.write_str("null"),
-        Node::Name(text) => write_text(f, stores, "id:", text),
-        Node::Hole => f.write_str("hole"),
-        Node::Spread(_) => f.write_str("(..."),
-        Node::Array(_) => f.write_str("["),
-        Node::StaticMember { .. } => f.write_str("(."),
-        Node::ComputedMember { .. } => f.write_str("(at"),
-        Node::Call { .. } => f.write_str("(call"),
-        Node::Template(_) => f.write_str("(template"),
-        Node::Quasi { raw, cooked } => {
-            write_text(f, stores, "", raw)?;
-            write_text(f, stores, ":", cooked)
-        }
-        Node::Unary { operator, .. } => f.write_str(unary(operator)),
-        Node::Binary { operator, .. } => f.write_str(binary(operator)),
-        Node::Opaque { mark, first, .. } => {
-            let flag = flag(first);
-            write!(f, "(opaque {mark} {flag}")
+    // Writes a leaf, or what stands before the children of any other node.
+    fn open<W: fmt::Write>(self, f: &mut fmt::Formatter<W>) -> fmt::Result {
+        match self.node {
+            Node::String(text) => write!(f, "s:{}", self.hex(text)),
+            Node::Number(bits) => write!(f, "n:{bits:016x}"),
+            Node::Boolean(value) => write!(f, "{value}"),
+            Node::Null => f.write_str("null"),
+            Node::Name(text) => write!(f, "id:{}", self.hex(text)),
+            Node::Hole => f.write_str("hole"),
+            Node::Spread(_) => f.write_str("(..."),
+            Node::Array(_) => f.write_str("["),
+            Node::StaticMember { .. } => f.write_str("(."),
+            Node::ComputedMember { .. } => f.write_str("(at"),
+            Node::Call { .. } => f.write_str("(call"),
+            Node::Template(_) => f.write_str("(template"),
+            Node::Quasi { raw, cooked } => write!(f, "{}:{}", self.hex(raw), self.hex(cooked)),
+            Node::Unary { operator, .. } => f.write_str(operator.printed()),
+            Node::Binary { operator, .. } => f.write_str(operator.printed()),
+            Node::Opaque { mark, first, .. } => write!(f, "(opaque {mark} {}", first.printed()),
         }
     }
-}
 
-// Writes a space before each part but the first of an array.
-fn separate<W: fmt::Write>(f: &mut fmt::Formatter<W>, node: Node, k: usize) -> fmt::Result {
-    match node {
-        Node::Array(_) if k == 0 => Ok(()),
-        _ => f.write_str(" "),
-    }
-}
-
-// Writes what stands behind the children.
-fn close<W: fmt::Write>(f: &mut fmt::Formatter<W>, stores: &Stores<'_>, node: Node) -> fmt::Result {
-    match node {
-        Node::String(_)
-        | Node::Number(_)
-        | Node::Boolean(_)
-        | Node::Null
-        | Node::Name(_)
-        | Node::Hole
-        | Node::Quasi { .. } => Ok(()),
-        Node::Array(_) => f.write_str("]"),
-        Node::StaticMember { name, .. } => {
-            write_text(f, stores, " ", name)?;
-            f.write_str(")")
+    // Writes a space before each part but the first of an array.
+    fn separate<W: fmt::Write>(self, f: &mut fmt::Formatter<W>, k: usize) -> fmt::Result {
+        match self.node {
+            Node::Array(_) if k == 0 => Ok(()),
+            _ => f.write_str(" "),
         }
-        Node::Spread(_)
-        | Node::ComputedMember { .. }
-        | Node::Call { .. }
-        | Node::Template(_)
-        | Node::Unary { .. }
-        | Node::Binary { .. }
-        | Node::Opaque { .. } => f.write_str(")"),
+    }
+
+    // Writes what stands behind the children.
+    fn close<W: fmt::Write>(self, f: &mut fmt::Formatter<W>) -> fmt::Result {
+        match self.node {
+            Node::String(_)
+            | Node::Number(_)
+            | Node::Boolean(_)
+            | Node::Null
+            | Node::Name(_)
+            | Node::Hole
+            | Node::Quasi { .. } => Ok(()),
+            Node::Array(_) => f.write_str("]"),
+            Node::StaticMember { name, .. } => write!(f, " {})", self.hex(name)),
+            Node::Spread(_)
+            | Node::ComputedMember { .. }
+            | Node::Call { .. }
+            | Node::Template(_)
+            | Node::Unary { .. }
+            | Node::Binary { .. }
+            | Node::Opaque { .. } => f.write_str(")"),
+        }
+    }
+
+    // The bytes of a text. Each text of a loaded tree lies within the stores.
+    fn hex(self, text: TextRun) -> Hex<'s> {
+        Hex(self.stores.text(text).unwrap_or_default())
     }
 }
 
-// Writes a text in hexadecimal behind a mark.
-fn write_text<W: fmt::Write>(
-    f: &mut fmt::Formatter<W>,
-    stores: &Stores<'_>,
-    mark: &str,
-    text: TextRun,
-) -> fmt::Result {
-    let Some(bytes) = stores.text(text) else {
-        return Ok(());
-    };
-    let hex = Hex(bytes);
-    write!(f, "{mark}{hex}")
+// What is printed as a word of its own.
+trait Printed {
+    fn printed(self) -> &'static str;
 }
 
-fn unary(operator: UnaryOperator) -> &'static str {
-    match operator {
-        UnaryOperator::Plus => "(plus",
-        UnaryOperator::Minus => "(minus",
-        UnaryOperator::Void => "(void",
+impl Printed for UnaryOperator {
+    fn printed(self) -> &'static str {
+        match self {
+            UnaryOperator::Plus => "(plus",
+            UnaryOperator::Minus => "(minus",
+            UnaryOperator::Void => "(void",
+        }
     }
 }
 
-fn binary(operator: BinaryOperator) -> &'static str {
-    match operator {
-        BinaryOperator::Exponentiation => "(**",
-        BinaryOperator::Subtraction => "(-",
-        BinaryOperator::Division => "(/",
+impl Printed for BinaryOperator {
+    fn printed(self) -> &'static str {
+        match self {
+            BinaryOperator::Exponentiation => "(**",
+            BinaryOperator::Subtraction => "(-",
+            BinaryOperator::Division => "(/",
+        }
     }
 }
 
-fn flag(first: FirstChild) -> u8 {
-    match first {
-        FirstChild::Value => 0,
-        FirstChild::Reference => 1,
+impl Printed for FirstChild {
+    fn printed(self) -> &'static str {
+        match self {
+            FirstChild::Value => "0",
+            FirstChild::Reference => "1",
+        }
     }
 }

@@ -1,6 +1,5 @@
-use script::{Flaw, bytes_of};
+use script::{Flaw, bytes_of, words_of};
 use std::alloc::Global;
-use std::str::from_utf8;
 
 // Raw text, and the text that it is to cook to.
 #[derive(Drop)]
@@ -12,17 +11,13 @@ pub struct Comparison {
 impl Comparison {
     // Reads a line, with one space between words.
     pub fn parse(heap: Global, line: &[u8]) -> Result<Comparison, Flaw> {
-        let Ok(line) = from_utf8(line) else {
-            return Err(Flaw::Malformed);
-        };
-        let words: Vec<&str> = line.split(' ').collect(heap)?;
-        let ["cooks", raw, cooked] = words.as_slice() else {
-            return Err(Flaw::Malformed);
-        };
-        Ok(Comparison {
-            raw: bytes_of(heap, raw.as_bytes())?,
-            cooked: bytes_of(heap, cooked.as_bytes())?,
-        })
+        match words_of(heap, line)?.as_slice() {
+            ["cooks", raw, cooked] => Ok(Comparison {
+                raw: bytes_of(heap, raw.as_bytes())?,
+                cooked: bytes_of(heap, cooked.as_bytes())?,
+            }),
+            _ => Err(Flaw::Malformed),
+        }
     }
 
     // Whether the raw text cooks to the text.

@@ -9,25 +9,18 @@
 mod comparison;
 
 use comparison::Comparison;
-use script::Flaw;
+use script::{answer_lines, recognized};
 use std::alloc::{AllocError, Global};
 use std::io;
-use std::io::{BufRead, BufReader};
 
 fn main(rt: HostRuntime) -> io::Result<()> {
-    let heap = rt.alloc();
-    for line in BufReader::new(heap, rt.stdin())?.split(heap, b'\n') {
-        let answer = reply(heap, line?.as_slice())?;
-        println!(rt; "{answer}")?;
-    }
-    Ok(())
+    answer_lines(&rt, reply)
 }
 
 // The answer to a line.
 fn reply(heap: Global, line: &[u8]) -> Result<&'static str, AllocError> {
-    match Comparison::parse(heap, line) {
-        Ok(comparison) => Ok(if comparison.holds() { "yes" } else { "no" }),
-        Err(Flaw::Malformed) => Ok("malformed"),
-        Err(Flaw::Memory) => Err(AllocError),
+    match recognized(Comparison::parse(heap, line))? {
+        Some(comparison) => Ok(if comparison.holds() { "yes" } else { "no" }),
+        None => Ok("malformed"),
     }
 }

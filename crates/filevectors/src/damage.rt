@@ -1,13 +1,12 @@
 use base::Fault;
 use cases::Memory;
 use file::load;
-use script::{Flaw, bytes_of, number_of};
+use script::{Flaw, bytes_of, number_of, words_of};
 use std::alloc::{AllocError, Global};
 use std::fmt;
-use std::str::from_utf8;
 
-// What loading a file gave: nothing, or the fault.
-type Verdict = Option<Fault>;
+// What comes of loading a file.
+type Verdict = Result<(), Fault>;
 
 // Equal verdicts in a row.
 #[derive(Clone, Copy)]
@@ -26,8 +25,8 @@ impl fmt::Display for Run {
     fn fmt<W: fmt::Write>(&self, f: &mut fmt::Formatter<W>) -> fmt::Result {
         let len = self.len;
         match self.verdict {
-            None => write!(f, "ok*{len}"),
-            Some(fault) => {
+            Ok(()) => write!(f, "ok*{len}"),
+            Err(fault) => {
                 let number = fault.number();
                 let node = fault.node();
                 write!(f, "{number}@{node}*{len}")
@@ -46,10 +45,7 @@ pub struct Damage {
 impl Damage {
     // Reads a line, with one space between words.
     pub fn parse(heap: Global, line: &[u8]) -> Result<Damage, Flaw> {
-        let Ok(line) = from_utf8(line) else {
-            return Err(Flaw::Malformed);
-        };
-        let words: Vec<&str> = line.split(' ').collect(heap)?;
+        let words = words_of(heap, line)?;
         let ["damage", file, place] = words.as_slice() else {
             return Err(Flaw::Malformed);
         };
@@ -85,8 +81,8 @@ impl Damage {
             *byte = value;
         }
         match load(self.file.as_slice(), memory.stores()) {
-            Ok(_) => None,
-            Err(refused) => Some(refused.fault),
+            Ok(_) => Ok(()),
+            Err(refused) => Err(refused.fault),
         }
     }
 }

@@ -11,25 +11,18 @@ mod damage;
 
 use cases::answer_line;
 use damage::Damage;
-use script::Flaw;
+use script::{answer_lines, recognized};
 use std::alloc::{AllocError, Global};
 use std::io;
-use std::io::{BufRead, BufReader};
 
 fn main(rt: HostRuntime) -> io::Result<()> {
-    let heap = rt.alloc();
-    for line in BufReader::new(heap, rt.stdin())?.split(heap, b'\n') {
-        let answer = reply(heap, line?.as_slice())?;
-        println!(rt; "{answer}")?;
-    }
-    Ok(())
+    answer_lines(&rt, reply)
 }
 
 // The answer to a line. What is no command of the vectors' own is left to the line protocol.
 fn reply(heap: Global, line: &[u8]) -> Result<String, AllocError> {
-    match Damage::parse(heap, line) {
-        Ok(damage) => damage.run(heap),
-        Err(Flaw::Malformed) => answer_line(heap, line),
-        Err(Flaw::Memory) => Err(AllocError),
+    match recognized(Damage::parse(heap, line))? {
+        Some(damage) => damage.run(heap),
+        None => answer_line(heap, line),
     }
 }

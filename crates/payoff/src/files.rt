@@ -1,9 +1,9 @@
 // Payoffs in files, and their trees.
-use super::explained::Explained;
-use anyhow::anyhow;
+use anyhow::{anyhow, bail};
 use cases::{Memory, Shown};
 use file::{Loaded, load};
-use std::alloc::Global;
+use script::Answer;
+use std::rt::Files;
 use std::{fs, io};
 use store::Counts;
 
@@ -11,15 +11,25 @@ use store::Counts;
 const QUOTE: &str = "quote.payoff";
 
 // Loads the quote's payoff, and prints how large its file is, how much that holds, and the tree.
-pub fn show_quote(rt: &HostRuntime) -> anyhow::Result<()> {
-    match describe(rt, QUOTE) {
-        Ok(()) => Ok(()),
-        Err(error) => Err(anyhow!(format!(in rt.alloc(); "{QUOTE}: {error}")?)),
-    }
+pub fn show_quote(rt: &(impl Files + Print + AllocGlobal)) -> anyhow::Result<()> {
+    with_loaded(rt, QUOTE, |len, loaded| {
+        let Counts {
+            nodes,
+            entries,
+            text,
+        } = loaded.stores().counts();
+        println!(rt; "file      {QUOTE}, {len} bytes")?;
+        println!(rt; "holds     {nodes} nodes, {entries} list entries, {text} bytes of text")?;
+        println!(rt; "tree      {}", Shown::new(loaded))
+    })
+    .map_err(|error| anyhow!("{QUOTE}: {error}"))
 }
 
 // Prints the tree of each file, and says of each other one why it has none.
-pub fn show_all(rt: &HostRuntime, paths: &[String]) -> anyhow::Result<()> {
+pub fn show_all(
+    rt: &(impl Files + Print + Eprint + AllocGlobal),
+    paths: &[String],
+) -> anyhow::Result<()> {
     let mut bad = 0usize;
     for path in paths {
         if let Err(error) = show(rt, path.as_str()) {
@@ -28,55 +38,29 @@ pub fn show_all(rt: &HostRuntime, paths: &[String]) -> anyhow::Result<()> {
         }
     }
     if bad > 0 {
-        let all = paths.len();
-        return Err(anyhow!(format!(in rt.alloc(); "no tree for {bad} of {all} files")?));
+        bail!("no tree for {bad} of {} files", paths.len());
     }
     Ok(())
 }
 
-fn describe(rt: &HostRuntime, path: &str) -> anyhow::Result<()> {
-    let heap = rt.alloc();
+fn show(rt: &(impl Files + Print + AllocGlobal), path: &str) -> anyhow::Result<()> {
+    with_loaded(
+        rt,
+        path,
+        |_len, loaded| println!(rt; "{path}: {}", Shown::new(loaded)),
+    )
+}
+
+// Loads a file, and prints what `print` says of it and of its length.
+fn with_loaded<F>(rt: &(impl Files + AllocGlobal), path: &str, print: F) -> anyhow::Result<()>
+where
+    F: FnOnce(usize, &Loaded<'_>) -> io::Result<()>,
+    requires { F.IsAlwaysCallable print }
+{
     let file = fs::read(rt, path)?;
-    let mut memory = Memory::for_any_file(heap)?;
-    let loaded = load_into(heap, file.as_slice(), &mut memory)?;
-    let len = file.len();
-    println!(rt; "file      {path}, {len} bytes")?;
-    print_counts(rt, loaded.stores().counts())?;
-    print_tree(rt, "tree      ", &loaded)?;
-    Ok(())
-}
-
-fn show(rt: &HostRuntime, path: &str) -> anyhow::Result<()> {
-    let heap = rt.alloc();
-    let file = fs::read(rt, path)?;
-    let mut memory = Memory::for_any_file(heap)?;
-    let loaded = load_into(heap, file.as_slice(), &mut memory)?;
-    let head = format!(in heap; "{path}: ")?;
-    print_tree(rt, head.as_str(), &loaded)?;
-    Ok(())
-}
-
-fn print_counts(rt: &HostRuntime, counts: Counts) -> io::Result<()> {
-    let Counts {
-        nodes,
-        entries,
-        text,
-    } = counts;
-    println!(rt; "holds     {nodes} nodes, {entries} list entries, {text} bytes of text")
-}
-
-fn print_tree(rt: &HostRuntime, head: &str, loaded: &Loaded<'_>) -> io::Result<()> {
-    let tree = Shown::new(loaded);
-    println!(rt; "{head}{tree}")
-}
-
-// The tree of a file, loaded into the memory.
-fn load_into<'a>(heap: Global, file: &[u8], memory: &'a mut Memory) -> anyhow::Result<Loaded<'a>> {
-    match load(file, memory.stores()) {
-        Ok(loaded) => Ok(loaded),
-        Err(refused) => {
-            let why = Explained(refused.fault);
-            Err(anyhow!(format!(in heap; "{why}")?))
-        }
+    let mut memory = Memory::for_any_file(rt.alloc())?;
+    match load(file.as_slice(), memory.stores()) {
+        Ok(loaded) => Ok(print(file.len(), &loaded)?),
+        Err(refused) => bail!("{}: {}", Answer::Refused(refused.fault), refused.fault),
     }
 }

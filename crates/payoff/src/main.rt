@@ -3,14 +3,14 @@
 
 #![tactic(auto)]
 
-mod explained;
 mod files;
 mod label;
 
-use anyhow::anyhow;
+use anyhow::bail;
 use std::alloc::Global;
 use std::env;
 use std::process::ExitCode;
+use std::rt::{Env, Files};
 
 const HELP: &str =
     "payoff              escape the label of a quote into template text, cook it back, and compare
@@ -50,14 +50,14 @@ impl Command {
         let rest: Vec<String> = args.collect(heap)?;
         match (word.as_str(), rest.is_empty()) {
             ("show", false) => Ok(Command::Show(rest)),
-            ("show", true) => Err(anyhow!("show which files? See payoff help")),
-            (_, false) => Err(anyhow!("more than one word: see payoff help")),
+            ("show", true) => bail!("show which files? See payoff help"),
+            (_, false) => bail!("more than one word: see payoff help"),
             ("label", true) => Ok(Command::Label),
             ("quote", true) => Ok(Command::Quote),
             ("script", true) => Ok(Command::Script),
             ("cases", true) => Ok(Command::Cases),
             ("help", true) => Ok(Command::Help),
-            _ => Err(anyhow!(format!(in heap; "no command `{word}`: see payoff help")?)),
+            _ => bail!("no command `{word}`: see payoff help"),
         }
     }
 }
@@ -72,7 +72,7 @@ fn main(rt: HostRuntime) -> ExitCode {
     }
 }
 
-fn run(rt: &HostRuntime) -> anyhow::Result<()> {
+fn run(rt: &(impl Env + Files + Input + Print + Eprint + AllocGlobal)) -> anyhow::Result<()> {
     match Command::parse(rt.alloc(), env::args(rt)?)? {
         Command::Label => label::show(rt)?,
         Command::Quote => files::show_quote(rt)?,

@@ -1,5 +1,6 @@
-pub mod Cutting
 pub mod Digits
 pub mod Numerals
 pub mod Pairs
+pub mod Replying
 pub mod Requested
+pub mod Spaces

@@ -15,7 +15,7 @@ no_plus (x ∷ word) e h = signed (subst (λ (n : ℕ). digit_value n < 10) e h.
 digit_low : (c : ℕ) → digit_value c < 10 → c < 128
 digit_low c h = grind (arith, nat_tests)
 
-numeral_low : (word : List ℕ) → AllDigits 10 word → (i : ℕ) → get_or word i 0 < 128
+pub numeral_low : (word : List ℕ) → AllDigits 10 word → (i : ℕ) → get_or word i 0 < 128
 numeral_low [] d i = omega arith
 numeral_low (c ∷ word) d zero = digit_low c d.0
 numeral_low (c ∷ word) d (suc i) = numeral_low word d.1 i

@@ -1,9 +1,11 @@
 -- Reading bytes from digits, two at a time. Assumes nothing.
-use Rattle.std.proofs.Common.{◌≡◌, ℕ, ◌-◌, ◌/◌, ◌%◌, ◌≤◌, List, [], ◌∷◌, ◌++◌, length, get_or, take, drop, sym, refl, ap, ◌∙◌, append-nil, arith}
+use Rattle.std.proofs.Common.{◌≡◌, ℕ, ◌-◌, ◌/◌, ◌%◌, ◌≤◌, List, [], ◌∷◌, ◌++◌, Err, length, get_or, take, drop, sym, refl, ap, ◌∙◌, append-nil, arith}
 use Rattle.std.proofs.lemmas.List.{take_rest}
 use Rattle.std.specs.Char.{digit_char}
 use Rattle.script.specs.Hex.{Byte, two_digits, hexed}
-use Rattle.script.specs.Words.{Bytes}
+use Rattle.script.specs.Words.{Bytes, BytesRead}
+use Rattle.script.specs.declared.flaw.Flaw.{Flaw}
+use Rattle.script.specs.declared.flaw.Flaw.TheVariants.{Malformed, Memory}
 
 pub hexed_push : (bs : List ℕ) (b : ℕ) (rest : List ℕ) → hexed (bs ++ b ∷ []) ++ rest ≡ hexed bs ++ (two_digits b ++ rest)
 hexed_push [] b rest = refl
@@ -43,6 +45,11 @@ pair_again done new (x ∷ y ∷ rest) digits b l h n e =
     ∙ hexed_push done b rest
     ∙ ap (λ (zs : List ℕ). hexed done ++ (zs ++ rest)) written
     ∙ h
+
+-- Where the digits are those of no bytes, they may be called malformed.
+pub refused : (word : List ℕ) (e : Flaw) → ((bs : List ℕ) → Bytes bs → hexed bs ≡ word → ⊥) → BytesRead word (Err e)
+refused word Malformed never = never
+refused word Memory never = tt
 
 pub pair_refused : (done rest digits : List ℕ) → 2 ≤ length rest → hexed done ++ rest ≡ digits → ((b : ℕ) → Byte b → two_digits b ≡ get_or rest 0 0 ∷ get_or rest 1 0 ∷ [] → ⊥) → (bs : List ℕ) → Bytes bs → hexed bs ≡ digits → ⊥
 pair_refused done [] digits l h never bs ok e = omega arith

@@ -1,16 +1,25 @@
--- Lines that ask for nothing. Assumes nothing.
-use Rattle.std.proofs.Common.{◌≡◌, ℕ, zero, suc, ◌^◌, ◌<◌, List, ◌∷◌, ◌++◌, Some, None, Err, Option, sym, ap, ◌∙◌, subst, inl, inr, append-nil, arith, Bor}
-use Rattle.std.specs.Str.Parse.{IsNumeral, digits_value}
-use Rattle.script.specs.Cuts.{Spaceless, CutAt}
+-- What the words of a line ask for. Assumes nothing.
+use Rattle.std.proofs.Common.{◌≡◌, ℕ, zero, suc, ◌-◌, ◌/◌, ◌%◌, ◌^◌, ◌<◌, ◌≤◌, ◌⊎◌, List, [], ◌∷◌, ◌++◌, Ok, Err, Result, length, get_or, sym, refl, ap, ◌∙◌, subst, inl, inr, append-nil, arith, Bor, IsUtf8, map}
+use Rattle.std.proofs.lemmas.Bool.Decides.{nat_tests}
+use Rattle.std.proofs.lemmas.Grind.{common_steps}
+use Rattle.std.proofs.lemmas.List.{length-map}
+use Rattle.std.proofs.lemmas.List.Splits.{join_with_byte-slice_split}
+use Rattle.std.proofs.lemmas.Str.{IsUtf8-from_ascii, IsAscii-append}
+use Rattle.std.specs.Char.{digit_char}
+use Rattle.std.specs.List.{join_with_byte}
+use Rattle.std.specs.Str.{IsAscii}
+use Rattle.std.specs.Str.Parse.{AllDigits, IsNumeral, digits_value}
 use Rattle.script.specs.Hex.{hexed}
 use Rattle.script.specs.Parts.{name_of}
-use Rattle.script.specs.Requests.{RoomSaid, Asks, RequestRead}
-use Rattle.script.specs.Words.{Bytes, BytesRead}
+use Rattle.script.specs.Requests.{RoomSaid, Asks, PartsRead, RequestRead}
+use Rattle.script.specs.Words.{Bytes, WordsRead, words}
 use Rattle.script.specs.declared.request.Call.{Call}
 use Rattle.script.specs.declared.request.Call.TheVariants.{Escape, Cook}
-use Rattle.script.specs.declared.request.Flaw.{Flaw}
-use Rattle.script.specs.declared.request.Flaw.TheVariants.{Malformed, Memory}
-use Rattle.script.proofs.Cutting.{cut_once, space_within, hexed_spaceless}
+use Rattle.script.specs.declared.request.Request.{Request}
+use Rattle.script.specs.declared.flaw.Flaw.{Flaw}
+use Rattle.script.specs.declared.flaw.Flaw.TheVariants.{Malformed, Memory}
+use Rattle.script.proofs.Numerals.{numeral_low}
+use Rattle.script.proofs.Spaces.{name_spaceless, hexed_spaceless, digits_spaceless, one_word, next_word}
 
 -- Nothing asks for what the line says.
 abbrev pub Idle : List ℕ → Type 0
@@ -20,60 +29,135 @@ pub idle : (line : List ℕ) (e : Flaw) → Idle line → RequestRead line (Err 
 idle line Malformed i = i
 idle line Memory i = tt
 
-name_spaceless : (call : Call) → Spaceless (name_of call)
-name_spaceless Escape zero l e = omega arith
-name_spaceless Escape (suc zero) l e = omega arith
-name_spaceless Escape (suc (suc zero)) l e = omega arith
-name_spaceless Escape (suc (suc (suc zero))) l e = omega arith
-name_spaceless Escape (suc (suc (suc (suc zero)))) l e = omega arith
-name_spaceless Escape (suc (suc (suc (suc (suc zero))))) l e = omega arith
-name_spaceless Escape (suc (suc (suc (suc (suc (suc k)))))) l e = omega arith
-name_spaceless Cook zero l e = omega arith
-name_spaceless Cook (suc zero) l e = omega arith
-name_spaceless Cook (suc (suc zero)) l e = omega arith
-name_spaceless Cook (suc (suc (suc zero))) l e = omega arith
-name_spaceless Cook (suc (suc (suc (suc k)))) l e = omega arith
+-- The words of a line that asks for something.
+abbrev Said : List (List ℕ) → Call → List ℕ → ℕ → Type 0
+Said ws call bytes room =
+    ((ws ≡ name_of call ∷ hexed bytes ∷ []) × (room ≡ 2 ^ 64 - 1))
+    ⊎ ((digits : List ℕ) × (ws ≡ name_of call ∷ hexed bytes ∷ digits ∷ []) × IsNumeral 10 digits × (digits_value 10 digits ≡ room) × (room < 2 ^ 64))
 
--- There is no second word.
-pub no_second : (line : List ℕ) → Spaceless line → Idle line
-no_second line s call bytes room b a = space_within (name_of call) (hexed bytes ++ a.0) line a.2 s
+two : (call : Call) (bytes : List ℕ) → words (name_of call ++ 0x20 ∷ hexed bytes) ≡ name_of call ∷ hexed bytes ∷ []
+two call bytes = next_word (name_of call) (hexed bytes) (name_spaceless call) ∙ ap (λ ws. name_of call ∷ ws) (one_word (hexed bytes) (hexed_spaceless bytes))
 
--- The first word names no call.
-pub no_call : (line word rest : List ℕ) → line ≡ word ++ 0x20 ∷ rest → Spaceless word → ((call : Call) → name_of call ≡ word → ⊥) → Idle line
-no_call line word rest e s bad call bytes room b a =
-    bad call (cut_once (name_of call) (hexed bytes ++ a.0) word rest (name_spaceless call) s (sym a.2 ∙ e)).0
+three : (call : Call) (bytes digits : List ℕ) → IsNumeral 10 digits → words (name_of call ++ 0x20 ∷ (hexed bytes ++ 0x20 ∷ digits)) ≡ name_of call ∷ hexed bytes ∷ digits ∷ []
+three call bytes digits n =
+    next_word (name_of call) (hexed bytes ++ 0x20 ∷ digits) (name_spaceless call)
+    ∙ ap (λ ws. name_of call ∷ ws) (next_word (hexed bytes) digits (hexed_spaceless bytes))
+    ∙ ap (λ ws. name_of call ∷ hexed bytes ∷ ws) (one_word digits (digits_spaceless digits n.1))
 
--- The second word, and what follows it.
-second : (rest word bytes end : List ℕ) (o : Option (Bor (List ℕ))) (room : ℕ) → CutAt rest word o → RoomSaid room end → rest ≡ hexed bytes ++ end → hexed bytes ≡ word
-second rest word bytes end None room c (inl r) e = sym (append-nil (hexed bytes)) ∙ ap (λ l. hexed bytes ++ l) (sym r.0) ∙ sym e ∙ sym c.0
-second rest word bytes end None room c (inr r) e = absurd (space_within (hexed bytes) r.0 rest (e ∙ ap (λ l. hexed bytes ++ l) r.1) c.1)
-second rest word bytes end (Some t) room c (inl r) e =
-    let alone : hexed bytes ≡ word ++ 0x20 ∷ t.now = sym (append-nil (hexed bytes)) ∙ ap (λ l. hexed bytes ++ l) (sym r.0) ∙ sym e ∙ c.0 in
-    absurd (space_within word t.now (hexed bytes) alone (hexed_spaceless bytes))
-second rest word bytes end (Some t) room c (inr r) e =
-    (cut_once (hexed bytes) r.0 word t.now (hexed_spaceless bytes) c.1 (ap (λ l. hexed bytes ++ l) (sym r.1) ∙ sym e ∙ c.0)).0
+said : (line : List ℕ) (call : Call) (bytes : List ℕ) (room : ℕ) (end : List ℕ) → RoomSaid room end → line ≡ name_of call ++ 0x20 ∷ (hexed bytes ++ end) → Said (words line) call bytes room
+said line call bytes room end (inl r) e =
+    inl
+    (ap words (e ∙ ap (λ l. name_of call ++ 0x20 ∷ (hexed bytes ++ l)) r.0 ∙ ap (λ l. name_of call ++ 0x20 ∷ l) (append-nil (hexed bytes))) ∙ two call bytes, r.1)
+said line call bytes room end (inr r) e =
+    inr
+    (r.0, ap words (e ∙ ap (λ l. name_of call ++ 0x20 ∷ (hexed bytes ++ l)) r.1) ∙ three call bytes r.0 r.2, r.2, r.3, r.4)
 
-no_text : (line name rest word : List ℕ) (o : Option (Bor (List ℕ))) → line ≡ name ++ 0x20 ∷ rest → Spaceless name → CutAt rest word o → ((bs : List ℕ) → Bytes bs → hexed bs ≡ word → ⊥) → Idle line
-no_text line name rest word o e s c bad call bytes room b a =
-    let behind = (cut_once (name_of call) (hexed bytes ++ a.0) name rest (name_spaceless call) s (sym a.2 ∙ e)).1 in
-    bad bytes b (second rest word bytes a.0 o room c a.1 (sym behind))
+joined : (line : List ℕ) (ws : List (List ℕ)) → words line ≡ ws → line ≡ join_with_byte 0x20 ws
+joined line ws e = sym (join_with_byte-slice_split 0x20 line) ∙ ap (join_with_byte 0x20) e
+
+-- A list of two or of three borrowed texts.
+pub two_of : (v : List (Bor (List ℕ))) (d : Bor (List ℕ)) → 2 ≤ length v → length v < 3 → map (λ x. x.now) v ≡ (get_or v 0 d).now ∷ (get_or v 1 d).now ∷ []
+two_of [] d l m = absurd (omega arith)
+two_of (x ∷ []) d l m = absurd (omega arith)
+two_of (x ∷ y ∷ []) d l m = refl
+two_of (x ∷ y ∷ z ∷ v) d l m = absurd (omega arith)
+
+pub three_of : (v : List (Bor (List ℕ))) (d : Bor (List ℕ)) → 3 ≤ length v → length v < 4 → map (λ x. x.now) v ≡ (get_or v 0 d).now ∷ (get_or v 1 d).now ∷ (get_or v 2 d).now ∷ []
+three_of [] d l m = absurd (omega arith)
+three_of (x ∷ []) d l m = absurd (omega arith)
+three_of (x ∷ y ∷ []) d l m = absurd (omega arith)
+three_of (x ∷ y ∷ z ∷ []) d l m = refl
+three_of (x ∷ y ∷ z ∷ t ∷ v) d l m = absurd (omega arith)
+
+word : ℕ → List (List ℕ) → List ℕ
+word k ws = get_or ws k []
+
+-- A line of two words.
+two_said : (name text : List ℕ) (ws : List (List ℕ)) (call : Call) (bytes : List ℕ) (room : ℕ) → ws ≡ name ∷ text ∷ [] → Said ws call bytes room → (name_of call ≡ name) × (hexed bytes ≡ text)
+unfolding word
+two_said name text ws call bytes room e (inl s) = (ap (word 0) (sym s.0 ∙ e), ap (word 1) (sym s.0 ∙ e))
+two_said name text ws call bytes room e (inr s) = absurd (omega (arith, ap length (sym s.1 ∙ e)))
+
+pub two_words : (line name text : List ℕ) (r : Result Request Flaw) → words line ≡ name ∷ text ∷ [] → PartsRead name text (2 ^ 64 - 1) r → RequestRead line r
+two_words line name text (Ok q) e p =
+    ([], inl (refl, p.2), joined line _ e ∙ ap (λ l. l ++ 0x20 ∷ text) (sym p.0) ∙ ap (λ l. name_of q.call ++ 0x20 ∷ l) (sym p.1 ∙ sym (append-nil (hexed q.text.items))))
+two_words line name text (Err Malformed) e p =
+    λ call bytes room b a.
+    let s = two_said name text (words line) call bytes room e (said line call bytes room a.0 a.1 a.2) in
+    p call bytes b s.0 s.1
+two_words line name text (Err Memory) e p = tt
+
+-- A line of three words.
+three_said : (name text digits : List ℕ) (ws : List (List ℕ)) (call : Call) (bytes : List ℕ) (room : ℕ) → ws ≡ name ∷ text ∷ digits ∷ [] → Said ws call bytes room → (name_of call ≡ name) × (hexed bytes ≡ text) × IsNumeral 10 digits × (digits_value 10 digits < 2 ^ 64)
+unfolding word
+three_said name text digits ws call bytes room e (inl s) = absurd (omega (arith, ap length (sym s.0 ∙ e)))
+three_said name text digits ws call bytes room e (inr s) =
+    let same : s.0 ≡ digits = ap (word 2) (sym s.1 ∙ e) in (
+      ap (word 0) (sym s.1 ∙ e),
+      ap (word 1) (sym s.1 ∙ e),
+      subst (IsNumeral 10) same s.2,
+      subst (λ n. n < 2 ^ 64) (sym s.3 ∙ ap (digits_value 10) same) s.4,
+    )
+
+pub three_words : (line name text digits : List ℕ) (room : ℕ) (r : Result Request Flaw) → words line ≡ name ∷ text ∷ digits ∷ [] → IsNumeral 10 digits × (digits_value 10 digits ≡ room) → room < 2 ^ 64 → PartsRead name text room r → RequestRead line r
+three_words line name text digits room (Ok q) e n l p = (
+  0x20 ∷ digits,
+  inr (digits, refl, n.0, n.1 ∙ sym p.2, subst (λ k. k < 2 ^ 64) (sym p.2) l),
+  joined line _ e ∙ ap (λ l. l ++ 0x20 ∷ (text ++ 0x20 ∷ digits)) (sym p.0) ∙ ap (λ l. name_of q.call ++ 0x20 ∷ (l ++ 0x20 ∷ digits)) (sym p.1),
+)
+three_words line name text digits room (Err Malformed) e n l p =
+    λ call bytes asked b a.
+    let s = three_said name text digits (words line) call bytes asked e (said line call bytes asked a.0 a.1 a.2) in
+    p call bytes b s.0 s.1
+three_words line name text digits room (Err Memory) e n l p = tt
 
 -- The third word is no number of 64 bits.
-third : (rest word digits bytes end : List ℕ) (room : ℕ) → (rest ≡ word ++ 0x20 ∷ digits) → Spaceless word → (IsNumeral 10 digits → digits_value 10 digits < 2 ^ 64 → ⊥) → RoomSaid room end → rest ≡ hexed bytes ++ end → ⊥
-third rest word digits bytes end room c s bad (inl r) e =
-    let alone : hexed bytes ≡ word ++ 0x20 ∷ digits = sym (append-nil (hexed bytes)) ∙ ap (λ l. hexed bytes ++ l) (sym r.0) ∙ sym e ∙ c in
-    space_within word digits (hexed bytes) alone (hexed_spaceless bytes)
-third rest word digits bytes end room c s bad (inr r) e =
-    let same : r.0 ≡ digits = (cut_once (hexed bytes) r.0 word digits (hexed_spaceless bytes) s (ap (λ l. hexed bytes ++ l) (sym r.1) ∙ sym e ∙ c)).1 in
-    let small : digits_value 10 digits < 2 ^ 64 = subst (λ n. n < 2 ^ 64) (sym r.3 ∙ ap (digits_value 10) same) r.4 in
-    bad (subst (IsNumeral 10) same r.2) small
+pub no_room : (line name text digits : List ℕ) → words line ≡ name ∷ text ∷ digits ∷ [] → (IsNumeral 10 digits → digits_value 10 digits < 2 ^ 64 → ⊥) → Idle line
+no_room line name text digits e bad call bytes room b a =
+    let s = three_said name text digits (words line) call bytes room e (said line call bytes room a.0 a.1 a.2) in
+    bad s.2 s.3
 
-pub no_room : (line name rest word digits : List ℕ) → line ≡ name ++ 0x20 ∷ rest → Spaceless name → rest ≡ word ++ 0x20 ∷ digits → Spaceless word → (IsNumeral 10 digits → digits_value 10 digits < 2 ^ 64 → ⊥) → Idle line
-no_room line name rest word digits e s c t bad call bytes room b a =
-    let behind = (cut_once (name_of call) (hexed bytes ++ a.0) name rest (name_spaceless call) s (sym a.2 ∙ e)).1 in
-    third rest word digits bytes a.0 room c t bad a.1 (sym behind)
+-- There are not two or three words.
+counted : (ws : List (List ℕ)) (call : Call) (bytes : List ℕ) (room : ℕ) → Said ws call bytes room → (length ws ≡ 2) ⊎ (length ws ≡ 3)
+counted ws call bytes room (inl s) = inl (ap length s.0)
+counted ws call bytes room (inr s) = inr (ap length s.1)
 
--- The second word is no text.
-pub text_refused : (line name rest word : List ℕ) (o : Option (Bor (List ℕ))) (e : Flaw) → line ≡ name ++ 0x20 ∷ rest → Spaceless name → CutAt rest word o → BytesRead word (Err e) → RequestRead line (Err e)
-text_refused line name rest word o Malformed e s c bad = no_text line name rest word o e s c bad
-text_refused line name rest word o Memory e s c bad = tt
+pub miscounted : (line : List ℕ) (v : List (Bor (List ℕ))) → words line ≡ map (λ x. x.now) v → (length v ≡ 2 → ⊥) → (length v ≡ 3 → ⊥) → Idle line
+miscounted line v e not_two not_three call bytes room b a =
+    let same : length (words line) ≡ length v = ap length e ∙ length-map v (λ x. x.now) in
+    elim (counted (words line) call bytes room (said line call bytes room a.0 a.1 a.2)) [ inl n ↦ not_two (sym same ∙ n) | inr n ↦ not_three (sym same ∙ n) ]
+
+-- Only UTF-8 asks for something.
+ascii_digits : (ds : List ℕ) → AllDigits 10 ds → IsAscii ds
+ascii_digits ds d = numeral_low ds d
+
+ascii_name : (call : Call) → IsAscii (name_of call)
+ascii_name Escape i = grind (arith, common_steps)
+ascii_name Cook i = grind (arith, common_steps)
+
+hex_low : (v : ℕ) → v < 16 → digit_char v < 128
+hex_low v l = grind (arith, nat_tests)
+
+ascii_hexed : (bs : List ℕ) → Bytes bs → IsAscii (hexed bs)
+ascii_hexed [] ok i = omega arith
+ascii_hexed (b ∷ bs) ok zero = hex_low (b / 16) (omega (arith, ok.0))
+ascii_hexed (b ∷ bs) ok (suc zero) = hex_low (b % 16) (omega arith)
+ascii_hexed (b ∷ bs) ok (suc (suc i)) = ascii_hexed bs ok.1 i
+
+ascii_space : (xs : List ℕ) → IsAscii xs → IsAscii (0x20 ∷ xs)
+ascii_space xs a zero = omega arith
+ascii_space xs a (suc i) = a i
+
+ascii_end : (room : ℕ) (end : List ℕ) → RoomSaid room end → IsAscii end
+ascii_end room end (inl r) = subst IsAscii (sym r.0) (λ i. omega arith)
+ascii_end room end (inr r) = subst IsAscii (sym r.1) (ascii_space r.0 (ascii_digits r.0 r.2.1))
+
+pub no_text : (line : List ℕ) → ¬ (IsUtf8 line) → Idle line
+no_text line not_text call bytes room b a =
+    let tail : IsAscii (hexed bytes ++ a.0) = IsAscii-append (hexed bytes) a.0 (ascii_hexed bytes b) (ascii_end room a.0 a.1) in
+    let all : IsAscii (name_of call ++ 0x20 ∷ (hexed bytes ++ a.0)) = IsAscii-append (name_of call) (0x20 ∷ (hexed bytes ++ a.0)) (ascii_name call) (ascii_space (hexed bytes ++ a.0) tail) in
+    not_text (IsUtf8-from_ascii line (subst IsAscii (sym a.2) all))
+
+pub not_words : (line : List ℕ) (e : Flaw) → WordsRead line (Err e) → RequestRead line (Err e)
+not_words line Malformed n = no_text line n
+not_words line Memory n = tt

@@ -1,4 +1,4 @@
-pub mod Cuts
+pub mod Flaws
 pub mod Hex
 pub mod Lines
 pub mod Parts

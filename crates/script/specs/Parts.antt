@@ -3,7 +3,7 @@ use Rattle.std.specs.Prelude.{◌≡◌, ℕ, ◌^◌, ◌<◌, List, codes, Res
 use Rattle.std.specs.Str.Parse.{IsNumeral, digits_value}
 use Rattle.script.specs.declared.request.Call.{Call}
 use Rattle.script.specs.declared.request.Call.TheVariants.{Escape, Cook}
-use Rattle.script.specs.declared.request.Flaw.{Flaw}
+use Rattle.script.specs.declared.flaw.Flaw.{Flaw}
 
 abbrev pub name_of : Call → List ℕ
 name_of Escape = codes "escape"

@@ -1,9 +1,21 @@
--- Reading a word of the protocol. A word stands for bytes if it is what they are written as.
-use Rattle.std.specs.Prelude.{◌≡◌, ℕ, List, [], ◌∷◌, Ok, Err, vec_items, Result, Vec, ◌≢◌}
+-- Reading a line and a word of the protocol. A word stands for bytes if it is what they are written as.
+use Rattle.std.specs.Prelude.{◌≡◌, ◌==◌, ℕ, List, [], ◌∷◌, Ok, Err, vec_items, Result, Vec, ◌≢◌, map, IsUtf8}
+use Rattle.std.specs.List.{slice_split}
+use Rattle.std.specs.Borrow.{Bor}
 use Rattle.std.specs.declared.alloc.Global.{Global}
-use Rattle.script.specs.declared.request.Flaw.{Flaw}
-use Rattle.script.specs.declared.request.Flaw.TheVariants.{Malformed, Memory}
+use Rattle.script.specs.declared.flaw.Flaw.{Flaw}
+use Rattle.script.specs.declared.flaw.Flaw.TheVariants.{Malformed, Memory}
 use Rattle.script.specs.Hex.{Byte, hexed}
+
+-- The words of a line: the parts between its spaces.
+abbrev pub words : List ℕ → List (List ℕ)
+words line = slice_split (λ b. b == 0x20) line
+
+-- What is read are the words of the line; what is called malformed is no UTF-8. Nothing is said where memory is short.
+abbrev pub WordsRead : List ℕ → Result (Vec (Bor (List ℕ)) Global) Flaw → Type 0
+WordsRead line (Ok v) = map (λ word. word.now) (vec_items v) ≡ words line
+WordsRead line (Err Malformed) = ¬ (IsUtf8 line)
+WordsRead line (Err Memory) = Unit {0}
 
 abbrev pub Bytes : List ℕ → Type 0
 Bytes [] = Unit {0}

@@ -1,8 +1,10 @@
 ghost use Rattle.std.specs.Prelude.{Some};
-ghost use Rattle.script.specs.Lines.{line_of};
+ghost use Rattle.script.specs.Lines.{AnswerOf, line_of};
 
+use super::failure::Failure;
 use super::hex::Hex;
 use base::Fault;
+use std::alloc::AllocError;
 use std::fmt;
 
 // What a line is answered with.
@@ -15,15 +17,27 @@ pub enum Answer {
     Malformed,
 }
 
+// The answer that says what a call made, unless memory was short.
+impl TryFrom<Result<Vec<u8>, Failure>> for Answer {
+    type Error = AllocError;
+
+    ghost try_from_gives = { AnswerOf };
+
+    fn try_from(made: Result<Vec<u8>, Failure>) -> Result<Answer, AllocError> {
+        match made {
+            Ok(text) => Ok(Answer::Text(text)),
+            Err(Failure::Refused(fault)) => Ok(Answer::Refused(fault)),
+            Err(Failure::Memory) => Err(AllocError),
+        }
+    }
+}
+
 impl fmt::Display for Answer {
     ghost output = { λ a. Some (line_of a) };
 
     fn fmt<W: fmt::Write>(&self, f: &mut fmt::Formatter<W>) -> fmt::Result {
         match self {
-            Answer::Text(bytes) => {
-                let hex = Hex(bytes.as_slice());
-                write!(f, "ok {hex}")
-            }
+            Answer::Text(bytes) => write!(f, "ok {}", Hex(bytes.as_slice())),
             Answer::Refused(fault) => {
                 let number = fault.number();
                 let layer = fault.layer();

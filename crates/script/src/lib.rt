@@ -11,35 +11,35 @@
 ghost use Rattle.script.specs.Replies.{Replies};
 
 mod answer;
+mod failure;
+mod flaw;
 mod hex;
 mod request;
+mod serving;
 mod words;
 
 pub use answer::Answer;
+pub use failure::Failure;
+pub use flaw::{Flaw, recognized};
 pub use hex::{Hex, bytes_of};
 use request::Request;
-pub use request::{Call, Flaw, number_of};
+pub use request::{Call, number_of};
+pub use serving::answer_lines;
 use std::alloc::{AllocError, Global};
 use std::io;
-use std::io::{BufRead, BufReader};
+pub use words::words_of;
 
 // The answer to a line, which stands without its line feed.
 pub fn reply(heap: Global, line: &[u8]) -> Result<Answer, AllocError>
     ensures { Replies line.now result }
 {
-    match Request::parse(heap, line) {
-        Ok(request) => request.run(heap),
-        Err(Flaw::Malformed) => Ok(Answer::Malformed),
-        Err(Flaw::Memory) => Err(AllocError),
+    match recognized(Request::parse(heap, line))? {
+        Some(request) => Answer::try_from(request.run(heap)),
+        None => Ok(Answer::Malformed),
     }
 }
 
 // Answers each line of standard input on standard output.
-pub fn serve(rt: &HostRuntime) -> io::Result<()> {
-    let heap = rt.alloc();
-    for line in BufReader::new(heap, rt.stdin())?.split(heap, b'\n') {
-        let answer = reply(heap, line?.as_slice())?;
-        println!(rt; "{answer}")?;
-    }
-    Ok(())
+pub fn serve(rt: &(impl Input + Print + AllocGlobal)) -> io::Result<()> {
+    answer_lines(rt, reply)
 }

@@ -1,22 +1,36 @@
 ghost use Rattle.std.specs.Prelude.{◌≡◌, ◌*◌, min, length};
 ghost use Rattle.template.specs.Calls.{Writes};
-ghost use Rattle.script.specs.declared.request.Flaw.TheVariants.{Memory};
 ghost use Rattle.script.specs.Parts.{CallRead, NumberRead};
-ghost use Rattle.script.specs.Requests.{RequestRead};
+ghost use Rattle.script.specs.Requests.{PartsRead, RequestRead};
 ghost use Rattle.script.specs.Runs.{Means, form, Answers};
 
-use super::answer::Answer;
-use super::hex;
-use super::words::cut_word;
+use super::failure::Failure;
+use super::flaw::Flaw;
+use super::hex::bytes_of;
+use super::words::words_of;
 use base::Fault;
-use std::alloc::{AllocError, AllocFailed, Global};
-use std::str::from_utf8;
+use std::alloc::Global;
+use std::str::{FromStr, from_utf8};
 
 // A call of the library.
 #[derive(Clone, Copy)]
 pub enum Call {
     Escape,
     Cook,
+}
+
+impl FromStr for Call {
+    type Err = Flaw;
+
+    ghost from_str_gives = { CallRead };
+
+    fn from_str(word: &str) -> Result<Call, Flaw> {
+        match word {
+            "escape" => Ok(Call::Escape),
+            "cook" => Ok(Call::Cook),
+            _ => Err(Flaw::Malformed),
+        }
+    }
 }
 
 impl Call {
@@ -30,19 +44,15 @@ impl Call {
         }
     }
 
-    // What the call answers for a text, with an output of `room` bytes. No call writes more than twice as many bytes as
-    // the text has, so a larger output is not made.
-    pub fn run(self, heap: Global, text: &[u8], room: usize) -> Result<Answer, AllocError>
+    // What the call makes of a text, with an output of `room` bytes. No call writes more than twice as many bytes as the
+    // text has, so a larger output is not made.
+    pub fn run(self, heap: Global, text: &[u8], room: usize) -> Result<Vec<u8>, Failure>
         ensures { Answers self text.now (min room (2 * length text.now)) result }
     {
         let mut out = vec![in heap; 0u8; room.min(2 * text.len())]?;
-        match self.write(text, out.as_mut_slice()) {
-            Ok(len) => {
-                out.truncate(len);
-                Ok(Answer::Text(out))
-            }
-            Err(fault) => Ok(Answer::Refused(fault)),
-        }
+        let len = self.write(text, out.as_mut_slice())?;
+        out.truncate(len);
+        Ok(out)
     }
 }
 
@@ -55,40 +65,31 @@ pub struct Request {
 }
 
 impl Request {
-    // Reads a line: the call, the text and perhaps the room, with one space between words.
+    // Reads a line: the call, the text and perhaps the room.
     pub(crate) fn parse(heap: Global, line: &[u8]) -> Result<Request, Flaw>
         ensures { RequestRead line.now result }
     {
-        let first = cut_word(line);
-        let Some(rest) = first.rest else {
-            return Err(Flaw::Malformed);
-        };
-        let call = call_of(first.word)?;
-        let second = cut_word(rest);
-        let text = hex::bytes_of(heap, second.word)?;
-        let room = match second.rest {
-            Some(word) => number_of(word)?,
-            None => usize::MAX,
-        };
+        match words_of(heap, line)?.as_slice() {
+            [call, text] => Request::of(heap, call, text, usize::MAX),
+            [call, text, room] => Request::of(heap, call, text, number_of(room.as_bytes())?),
+            _ => Err(Flaw::Malformed),
+        }
+    }
+
+    // The request that the words make.
+    fn of(heap: Global, call: &str, text: &str, room: usize) -> Result<Request, Flaw>
+        ensures { PartsRead call.now text.now room result }
+    {
+        let call = call.parse()?;
+        let text = bytes_of(heap, text.as_bytes())?;
         Ok(Request { call, text, room })
     }
 
-    // What the library answers.
-    pub fn run(&self, heap: Global) -> Result<Answer, AllocError>
+    // What the library makes of it.
+    pub fn run(&self, heap: Global) -> Result<Vec<u8>, Failure>
         ensures { Answers self.now.call self.now.text.items (min self.now.room (2 * length self.now.text.items)) result }
     {
         self.call.run(heap, self.text.as_slice(), self.room)
-    }
-}
-
-// The call that the word names.
-fn call_of(word: &[u8]) -> Result<Call, Flaw>
-    ensures { CallRead word.now result }
-{
-    match word {
-        b"escape" => Ok(Call::Escape),
-        b"cook" => Ok(Call::Cook),
-        _ => Err(Flaw::Malformed),
     }
 }
 
@@ -96,37 +97,9 @@ fn call_of(word: &[u8]) -> Result<Call, Flaw>
 pub fn number_of(word: &[u8]) -> Result<usize, Flaw>
     ensures { NumberRead word.now result }
 {
-    if let [b'+', ..] = word {
+    let digits = from_utf8(word)?;
+    if digits.starts_with('+') {
         return Err(Flaw::Malformed);
     }
-    let Ok(digits) = from_utf8(word) else {
-        return Err(Flaw::Malformed);
-    };
-    match digits.parse::<usize>() {
-        Ok(number) => Ok(number),
-        Err(_) => Err(Flaw::Malformed),
-    }
-}
-
-// Why a line gives no request.
-#[derive(Drop, Debug)]
-pub enum Flaw {
-    Malformed,
-    Memory,
-}
-
-impl From<AllocError> for Flaw {
-    ghost from_gives = { λ _ r. r ≡ Memory };
-
-    fn from(_error: AllocError) -> Flaw {
-        Flaw::Memory
-    }
-}
-
-impl<T: Drop> From<AllocFailed<T>> for Flaw {
-    ghost from_gives = { λ _ r. r ≡ Memory };
-
-    fn from(_error: AllocFailed<T>) -> Flaw {
-        Flaw::Memory
-    }
+    Ok(digits.parse()?)
 }

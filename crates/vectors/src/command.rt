@@ -1,8 +1,7 @@
 use super::answer::Answer;
 use base::Fault;
-use script::{Flaw, bytes_of, number_of};
+use script::{Flaw, bytes_of, number_of, words_of};
 use std::alloc::Global;
-use std::str::from_utf8;
 
 // A call on texts, with what it is called with.
 #[derive(Drop)]
@@ -20,11 +19,7 @@ pub enum Command {
 impl Command {
     // Reads a line, with one space between words.
     pub fn parse(heap: Global, line: &[u8]) -> Result<Command, Flaw> {
-        let Ok(line) = from_utf8(line) else {
-            return Err(Flaw::Malformed);
-        };
-        let words: Vec<&str> = line.split(' ').collect(heap)?;
-        match words.as_slice() {
+        match words_of(heap, line)?.as_slice() {
             ["lawful", text] => Ok(Command::Lawful(text_of(heap, text)?)),
             ["units", text] => Ok(Command::Units(text_of(heap, text)?)),
             ["unit", text, k] => Ok(Command::Unit(text_of(heap, text)?, number_of(k.as_bytes())?)),
@@ -49,10 +44,8 @@ impl Command {
     }
 
     pub fn run(self) -> Answer {
-        match self.call() {
-            Ok(answer) => answer,
-            Err(fault) => Answer::Script(script::Answer::Refused(fault)),
-        }
+        self.call()
+            .unwrap_or_else(|fault| Answer::Script(script::Answer::Refused(fault)))
     }
 
     fn call(self) -> Result<Answer, Fault> {

@@ -14,25 +14,18 @@ mod command;
 
 use answer::Answer;
 use command::Command;
-use script::Flaw;
+use script::{answer_lines, recognized};
 use std::alloc::{AllocError, Global};
 use std::io;
-use std::io::{BufRead, BufReader};
 
 fn main(rt: HostRuntime) -> io::Result<()> {
-    let heap = rt.alloc();
-    for line in BufReader::new(heap, rt.stdin())?.split(heap, b'\n') {
-        let answer = reply(heap, line?.as_slice())?;
-        println!(rt; "{answer}")?;
-    }
-    Ok(())
+    answer_lines(&rt, reply)
 }
 
 // The answer to a line. What is no command of the vectors' own is left to the line protocol.
 fn reply(heap: Global, line: &[u8]) -> Result<Answer, AllocError> {
-    match Command::parse(heap, line) {
-        Ok(command) => Ok(command.run()),
-        Err(Flaw::Malformed) => Ok(Answer::Script(script::reply(heap, line)?)),
-        Err(Flaw::Memory) => Err(AllocError),
+    match recognized(Command::parse(heap, line))? {
+        Some(command) => Ok(command.run()),
+        None => Ok(Answer::Script(script::reply(heap, line)?)),
     }
 }

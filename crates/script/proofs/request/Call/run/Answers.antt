@@ -3,10 +3,10 @@ use Rattle.std.proofs.lemmas.List.{with_items_is}
 use Rattle.script.specs.Runs.{form}
 use Rattle.script.proofs.request.Call.run.Goals as goal
 
-pub returns-in-Ok : goal.returns-in-Ok
-returns-in-Ok c =
-    let k = c.in-Ok.ensures in
-    let n = c.in-Ok.len in
+pub returns : goal.returns
+returns c =
+    let k = c.in_ok-len.ensures in
+    let n = c.in_ok-len.len in
     let old = c.as_mut_slice.result.now in
     let written = form c.args.self k.0 in (
       k.0,

@@ -1,32 +1,37 @@
-use Rattle.std.proofs.Common.{subst}
+use Rattle.std.proofs.Common.{◌∙◌, ap, sym, map, arith, rules}
 use Rattle.std.proofs.lemmas.Result.{err_from_is_err_and}
-use Rattle.script.specs.Cuts.{CutAt}
-use Rattle.script.proofs.Requested.{idle, no_second, no_call, no_room, text_refused}
+use Rattle.script.proofs.Requested.{idle, not_words, two_of, three_of, two_words, three_words, no_room, miscounted}
 use Rattle.script.proofs.request.Request.parse.Goals as goal
+use Rattle.script.proofs.request.Request.parse.Goals.{in_default-via-then-as_slice-lt2, in_default-via-else-as_slice-lt2+else-this-lt3+else-this-lt4}
 
-pub returns-in_default : goal.returns-in_default
-returns-in_default c =
-    let cut = subst (CutAt c.args.line.now c.cut_word-first.result.word.now) c.in_default.is c.cut_word-first.ensures in
-    no_second c.args.line.now cut.1
-
-pub returns-in_err-call : goal.returns-in_err-call
-returns-in_err-call c =
+pub returns-in_err-words_of : goal.returns-in_err-words_of
+returns-in_err-words_of c =
     let p = err_from_is_err_and c.from_residual.result c.from_residual.ensures.1 in
-    let cut = subst (CutAt c.args.line.now c.cut_word-first.result.word.now) c.in-Some.is c.cut_word-first.ensures in
-    rw (p.1, p.2)
-    (idle c.args.line.now c.in_err-call.field-0.0 (no_call c.args.line.now c.cut_word-first.result.word.now c.in-Some.rest.now cut.0 cut.1 c.in_err-call.ensures))
+    rw (p.1, p.2) (not_words c.args.line.now c.in_err-words_of.field-0.0 c.in_err-words_of.ensures)
 
-pub returns-in_err-text : goal.returns-in_err-text
-returns-in_err-text c =
-    let p = err_from_is_err_and c.from_residual-in_err-text.result c.from_residual-in_err-text.ensures.1 in
-    let first = subst (CutAt c.args.line.now c.cut_word-first.result.word.now) c.in-Some.is c.cut_word-first.ensures in
-    rw (p.1, p.2)
-    (text_refused c.args.line.now c.cut_word-first.result.word.now c.in-Some.rest.now c.cut_word-second.result.word.now c.cut_word-second.result.rest c.in_err-text.field-0.0 first.0 first.1 c.cut_word-second.ensures c.in_err-text.ensures)
+pub returns-in-len2 : goal.returns-in-len2
+returns-in-len2 c =
+    let words = sym c.in_ok-words_of.ensures ∙ ap (map (λ x. x.now)) (sym c.as_slice.ensures.value) in
+    two_words c.args.line.now _ _ c.of.result (words ∙ two_of c.as_slice.result.now _ c.in-len2.len_at_least c.in-len2.len_below) c.of.ensures
 
-pub returns-in_err-room-in-Some-rest : goal.returns-in_err-room-in-Some-rest
-returns-in_err-room-in-Some-rest c =
-    let p = err_from_is_err_and c.from_residual-in_err-room-in-Some-rest.result c.from_residual-in_err-room-in-Some-rest.ensures.1 in
-    let first = subst (CutAt c.args.line.now c.cut_word-first.result.word.now) c.in-Some.is c.cut_word-first.ensures in
-    let next = subst (CutAt c.in-Some.rest.now c.cut_word-second.result.word.now) c.in-Some-rest.is c.cut_word-second.ensures in
-    rw (p.1, p.2)
-    (idle c.args.line.now c.in_err-room-in-Some-rest.field-0.0 (no_room c.args.line.now c.cut_word-first.result.word.now c.in-Some.rest.now c.cut_word-second.result.word.now c.in-Some-rest.word.now first.0 first.1 next.0 next.1 c.in_err-room-in-Some-rest.ensures))
+pub returns-in_err-number_of-in-len3 : goal.returns-in_err-number_of-in-len3
+returns-in_err-number_of-in-len3 c =
+    let words = sym c.in_ok-words_of.ensures ∙ ap (map (λ x. x.now)) (sym c.as_slice.ensures.value) in
+    let p = err_from_is_err_and c.from_residual-in_err-number_of-in-len3.result c.from_residual-in_err-number_of-in-len3.ensures.1 in
+    let third = rw c.as_bytes.ensures.value at c.in_err-number_of-in-len3.ensures in
+    rw (p.1)
+    (idle c.args.line.now p.0 (no_room c.args.line.now _ _ _ (words ∙ three_of c.as_slice.result.now _ c.in-len3.len_at_least c.in-len3.len_below) third))
+
+pub returns-in-len3 : goal.returns-in-len3
+returns-in-len3 c =
+    let words = sym c.in_ok-words_of.ensures ∙ ap (map (λ x. x.now)) (sym c.as_slice.ensures.value) in
+    let third = rw c.as_bytes.ensures.value at c.in_ok-number_of-in-len3.ensures in
+    three_words c.args.line.now _ _ _ _ c.of-in-len3.result (words ∙ three_of c.as_slice.result.now _ c.in-len3.len_at_least c.in-len3.len_below) third (omega arith) c.of-in-len3.ensures
+
+pub returns : goal.returns
+returns c =
+    let words = sym c.in_ok-words_of.ensures ∙ ap (map (λ x. x.now)) (sym c.as_slice.ensures.value) in
+    elim c.in_default.branch [
+      | in_default-via-then-as_slice-lt2 w ↦ miscounted c.args.line.now c.as_slice.result.now words (λ e. search rules) (λ e. search rules)
+      | in_default-via-else-as_slice-lt2+else-this-lt3+else-this-lt4 w ↦ miscounted c.args.line.now c.as_slice.result.now words (λ e. search rules) (λ e. search rules)
+    ]
