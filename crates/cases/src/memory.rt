@@ -1,3 +1,5 @@
+ghost use Rattle.std.specs.Prelude.{◌≡◌, IfOk};
+
 use std::alloc::{AllocError, Global};
 use store::{Counts, Store, Stores};
 use tree::Node;
@@ -18,8 +20,13 @@ pub struct Memory {
 }
 
 impl Memory {
+    ghost use Rattle.store.specs.Stores.{counts_of, rooms_of};
+    ghost use Rattle.cases.specs.Rooms.{rooms_in, within_limits, limits, none};
+
     // Memory with these rooms. No file holds more than the limits, so that no more than they is made.
-    pub fn new(heap: Global, rooms: Counts) -> Result<Memory, AllocError> {
+    pub fn new(heap: Global, rooms: Counts) -> Result<Memory, AllocError>
+        ensures { IfOk result (λ memory. rooms_in memory ≡ within_limits rooms) }
+    {
         Ok(Memory {
             nodes: vec![in heap; Node::Null; rooms.nodes.min(LIMITS.nodes)]?,
             entries: vec![in heap; 0; rooms.entries.min(LIMITS.entries)]?,
@@ -28,12 +35,17 @@ impl Memory {
     }
 
     // Memory for any file.
-    pub fn for_any_file(heap: Global) -> Result<Memory, AllocError> {
+    pub fn for_any_file(heap: Global) -> Result<Memory, AllocError>
+        ensures { IfOk result (λ memory. rooms_in memory ≡ limits) }
+    {
         Memory::new(heap, LIMITS)
     }
 
     // Empty stores in this memory.
-    pub fn stores(&mut self) -> Stores<'_> {
+    pub fn stores(&mut self) -> Stores<'_>
+        ensures empty { counts_of result ≡ none }
+        ensures rooms { rooms_of result ≡ rooms_in self.old }
+    {
         Stores {
             nodes: Store::new(self.nodes.as_mut_slice()),
             entries: Store::new(self.entries.as_mut_slice()),
