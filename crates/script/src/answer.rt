@@ -8,7 +8,7 @@ use std::alloc::AllocError;
 use std::fmt;
 
 // What a line is answered with.
-#[derive(Drop)]
+#[derive(Debug, PartialEq, Eq, Drop)]
 pub enum Answer {
     // The text that the call made.
     Text(Vec<u8>),
@@ -38,12 +38,13 @@ impl fmt::Display for Answer {
     fn fmt<W: fmt::Write>(&self, f: &mut fmt::Formatter<W>) -> fmt::Result {
         match self {
             Answer::Text(bytes) => write!(f, "ok {}", Hex(bytes.as_slice())),
-            Answer::Refused(fault) => {
-                let number = fault.number();
-                let layer = fault.layer();
-                let node = fault.node();
-                write!(f, "refused {number} layer {layer} node {node}")
-            }
+            Answer::Refused(fault) => write!(
+                f,
+                "refused {} layer {} node {}",
+                fault.number(),
+                fault.layer(),
+                fault.node()
+            ),
             Answer::Malformed => f.write_str("malformed"),
         }
     }

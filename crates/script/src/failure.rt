@@ -7,7 +7,7 @@ use std::alloc::AllocError;
 use thiserror::Error;
 
 // Why a call makes no text.
-#[derive(Debug, Drop, Error)]
+#[derive(Clone, Copy, Debug, PartialEq, Eq, Error)]
 pub enum Failure {
     #[error("{}", Answer::Refused(*.0))]
     Refused(Fault),

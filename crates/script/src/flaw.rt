@@ -8,7 +8,7 @@ use std::str::Utf8Error;
 use thiserror::Error;
 
 // Why a line gives no request.
-#[derive(Debug, Drop, Error)]
+#[derive(Clone, Copy, Debug, PartialEq, Eq, Error)]
 pub enum Flaw {
     #[error("malformed")]
     Malformed,

@@ -8,7 +8,7 @@ use std::alloc::Global;
 use std::fmt;
 
 // Bytes that `{}` shows as a word.
-#[derive(Drop)]
+#[derive(Clone, Copy, Debug)]
 pub struct Hex<'a>(pub &'a [u8]);
 
 impl fmt::Display for Hex<'_> {

@@ -13,7 +13,7 @@ use std::alloc::Global;
 use std::str::{FromStr, from_utf8};
 
 // A call of the library.
-#[derive(Clone, Copy)]
+#[derive(Clone, Copy, Debug, PartialEq, Eq)]
 pub enum Call {
     Escape,
     Cook,
