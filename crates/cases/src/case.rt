@@ -1,4 +1,7 @@
 // A case: a file, stores to load it into, and what to do with it.
+ghost use Rattle.std.specs.Prelude.{OnOk};
+ghost use Rattle.cases.specs.Lines.{IsCase};
+
 use super::memory::Memory;
 use super::printing::Shown;
 use file::{Loaded, load};
@@ -37,7 +40,9 @@ pub struct Case {
 
 impl Case {
     // Reads a line, with one space between words.
-    pub fn parse(heap: Global, line: &[u8]) -> Result<Case, Flaw> {
+    pub fn parse(heap: Global, line: &[u8]) -> Result<Case, Flaw>
+        ensures { OnOk result (IsCase line.now) }
+    {
         let words = words_of(heap, line)?;
         let ["case", file, rooms, templates, power, calls @ ..] = words.as_slice() else {
             return Err(Flaw::Malformed);

@@ -1,4 +1,7 @@
 // The tree of a loaded file, on one line.
+ghost use Rattle.std.specs.Prelude.{◌≡◌};
+ghost use Rattle.file.specs.Calls.{loaded_stores, loaded_root};
+
 use file::Loaded;
 use script::Hex;
 use std::fmt;
@@ -13,7 +16,13 @@ pub struct Shown<'s, 'a> {
 }
 
 impl<'s, 'a> Shown<'s, 'a> {
-    pub fn new(loaded: &'s Loaded<'a>) -> Shown<'s, 'a> {
+    ghost use Rattle.cases.specs.Trees.{shown_stores, shown_root};
+
+    // The tree of the loaded file.
+    pub fn new(loaded: &'s Loaded<'a>) -> Shown<'s, 'a>
+        ensures stores { shown_stores result ≡ loaded_stores loaded.now }
+        ensures root { shown_root result ≡ loaded_root loaded.now }
+    {
         Shown {
             stores: loaded.stores(),
             root: loaded.root(),

@@ -1,11 +1,16 @@
 // Answering lines, and standard input.
+ghost use Rattle.std.specs.Prelude.{IfOk};
+ghost use Rattle.cases.specs.Lines.{AnswersLine};
+
 use super::case::Case;
 use script::{answer_lines, recognized, reply};
 use std::alloc::{AllocError, Global};
 use std::io;
 
 // The answer to a line, as it is printed: of a case what comes of it, of any other line the reply.
-pub fn answer_line(heap: Global, line: &[u8]) -> Result<String, AllocError> {
+pub fn answer_line(heap: Global, line: &[u8]) -> Result<String, AllocError>
+    ensures { IfOk result (AnswersLine line.now) }
+{
     match recognized(Case::parse(heap, line))? {
         Some(case) => case.run(heap),
         None => format!(in heap; "{}", reply(heap, line)?),
