@@ -1,5 +1,4 @@
 pub mod Digits
-pub mod Numerals
 pub mod Pairs
 pub mod Replying
 pub mod Requested

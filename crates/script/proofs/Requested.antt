@@ -2,13 +2,14 @@
 use Rattle.std.proofs.Common.{◌≡◌, ℕ, zero, suc, ◌-◌, ◌/◌, ◌%◌, ◌^◌, ◌<◌, ◌≤◌, ◌⊎◌, List, [], ◌∷◌, ◌++◌, Ok, Err, Result, length, get_or, sym, refl, ap, ◌∙◌, subst, inl, inr, append-nil, arith, Bor, IsUtf8, map}
 use Rattle.std.proofs.lemmas.Bool.Decides.{nat_tests}
 use Rattle.std.proofs.lemmas.Grind.{common_steps}
+use Rattle.std.proofs.lemmas.Fmt.{IsAscii-from_digits}
 use Rattle.std.proofs.lemmas.List.{length-map}
 use Rattle.std.proofs.lemmas.List.Splits.{join_with_byte-slice_split}
 use Rattle.std.proofs.lemmas.Str.{IsUtf8-from_ascii, IsAscii-append}
 use Rattle.std.specs.Char.{digit_char}
 use Rattle.std.specs.List.{join_with_byte}
 use Rattle.std.specs.Str.{IsAscii}
-use Rattle.std.specs.Str.Parse.{AllDigits, IsNumeral, digits_value}
+use Rattle.std.specs.Str.Parse.{IsNumeral, digits_value}
 use Rattle.script.specs.Hex.{hexed}
 use Rattle.script.specs.Parts.{name_of}
 use Rattle.script.specs.Requests.{RoomSaid, Asks, PartsRead, RequestRead}
@@ -18,7 +19,6 @@ use Rattle.script.specs.declared.request.Call.TheVariants.{Escape, Cook}
 use Rattle.script.specs.declared.request.Request.{Request}
 use Rattle.script.specs.declared.flaw.Flaw.{Flaw}
 use Rattle.script.specs.declared.flaw.Flaw.TheVariants.{Malformed, Memory}
-use Rattle.script.proofs.Numerals.{numeral_low}
 use Rattle.script.proofs.Spaces.{name_spaceless, hexed_spaceless, digits_spaceless, one_word, next_word}
 
 -- Nothing asks for what the line says.
@@ -54,6 +54,10 @@ said line call bytes room end (inr r) e =
 
 joined : (line : List ℕ) (ws : List (List ℕ)) → words line ≡ ws → line ≡ join_with_byte 0x20 ws
 joined line ws e = sym (join_with_byte-slice_split 0x20 line) ∙ ap (join_with_byte 0x20) e
+
+-- The words of a line, from those that were read.
+pub words_read : (line : List ℕ) (v s : List (Bor (List ℕ))) → map (λ x. x.now) v ≡ words line → s ≡ v → words line ≡ map (λ x. x.now) s
+words_read line v s e same = sym e ∙ ap (map (λ x. x.now)) (sym same)
 
 -- A list of two or of three borrowed texts.
 pub two_of : (v : List (Bor (List ℕ))) (d : Bor (List ℕ)) → 2 ≤ length v → length v < 3 → map (λ x. x.now) v ≡ (get_or v 0 d).now ∷ (get_or v 1 d).now ∷ []
@@ -128,9 +132,6 @@ miscounted line v e not_two not_three call bytes room b a =
     elim (counted (words line) call bytes room (said line call bytes room a.0 a.1 a.2)) [ inl n ↦ not_two (sym same ∙ n) | inr n ↦ not_three (sym same ∙ n) ]
 
 -- Only UTF-8 asks for something.
-ascii_digits : (ds : List ℕ) → AllDigits 10 ds → IsAscii ds
-ascii_digits ds d = numeral_low ds d
-
 ascii_name : (call : Call) → IsAscii (name_of call)
 ascii_name Escape i = grind (arith, common_steps)
 ascii_name Cook i = grind (arith, common_steps)
@@ -150,7 +151,7 @@ ascii_space xs a (suc i) = a i
 
 ascii_end : (room : ℕ) (end : List ℕ) → RoomSaid room end → IsAscii end
 ascii_end room end (inl r) = subst IsAscii (sym r.0) (λ i. omega arith)
-ascii_end room end (inr r) = subst IsAscii (sym r.1) (ascii_space r.0 (ascii_digits r.0 r.2.1))
+ascii_end room end (inr r) = subst IsAscii (sym r.1) (ascii_space r.0 (IsAscii-from_digits r.0 r.2.1))
 
 pub no_text : (line : List ℕ) → ¬ (IsUtf8 line) → Idle line
 no_text line not_text call bytes room b a =

@@ -48,7 +48,7 @@ fn byte_of(high: u8, low: u8) -> Option<u8>
     Some(high * 16 + low)
 }
 
-// The value of a lower-case hexadecimal digit.
+// The value of a lower-case hexadecimal digit. `to_digit`, and the crate `hex`, read capitals too.
 fn value_of(digit: u8) -> Option<u8>
     ensures { DigitRead digit result }
 {

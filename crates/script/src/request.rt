@@ -98,6 +98,7 @@ pub fn number_of(word: &[u8]) -> Result<usize, Flaw>
     ensures { NumberRead word.now result }
 {
     let digits = from_utf8(word)?;
+    // `parse` takes a sign, the protocol does not.
     if digits.starts_with('+') {
         return Err(Flaw::Malformed);
     }
