@@ -20,7 +20,7 @@ use Rattle.file.specs.Layout.{layout, root, node_count, entry_count, text_count,
 use Rattle.file.specs.Lawful.{Contents, LawfulFile, Fits, LawfulRecord, size_questions, record_questions, link_questions, load_questions}
 use Rattle.file.specs.Found.{laid, AllRecords}
 use Rattle.file.specs.Steps.{CutsInto, FitsIn, AllLinks, Checked, CopiesTo}
-use Rattle.file.proofs.Counted.{length_words}
+use Rattle.file.proofs.Words.{length_words}
 use Rattle.file.proofs.Granting.{held_lawful}
 use Rattle.file.proofs.TreeOf.{payoff_of}
 

@@ -11,8 +11,7 @@ use Rattle.file.specs.Layout.{layout, node_count, node_offset, entry_count, entr
 use Rattle.file.specs.Lawful.{LawfulFile}
 use Rattle.file.specs.Laws.{Bytes, SameContentsSameFile}
 use Rattle.file.proofs.Contained.{how_many, nth_records}
-use Rattle.file.proofs.Children.{nth_words}
-use Rattle.file.proofs.Counted.{length_words}
+use Rattle.file.proofs.Words.{length_words, nth_words}
 
 -- Two lists have the same byte, or the same word, at a place.
 abbrev SameByte : List ℕ → List ℕ → ℕ → Type 0

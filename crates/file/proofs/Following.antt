@@ -1,10 +1,10 @@
 -- Following a node's links, child by child.
-use Rattle.std.proofs.Common.{◌≡◌, ℕ, zero, suc, ◌+◌, ◌<◌, ◌≤◌, Bool, true, false, ◌&&◌, List, [], ◌∷◌, length, take, Some, None, MatchBool, Option, sym, ap, ◌∙◌, subst, inl, inr, arith, take_all}
+use Rattle.std.proofs.Common.{◌≡◌, ℕ, zero, suc, ◌+◌, ◌<◌, ◌≤◌, Bool, true, false, ◌&&◌, List, [], ◌∷◌, length, take, Some, None, MatchBool, Option, sym, ap, ◌∙◌, subst, inl, inr, arith, take_all, length-append, length-take}
 use Rattle.std.specs.List.{slice_get}
 use Rattle.std.proofs.lemmas.Bool.{cases_eq}
 use Rattle.tree.specs.declared.node.Node.{Node}
 use Rattle.tree.specs.Tree.{same}
-use Rattle.tree.specs.Heap.{children}
+use Rattle.tree.specs.Heap.{links, list_of, cut, children}
 use Rattle.tree.specs.Roles.{role_of_node}
 use Rattle.tree.specs.Laws.{count}
 use Rattle.std.proofs.lemmas.Option.{slice_get_within}
@@ -18,6 +18,12 @@ nth_none [] k e = omega arith
 nth_none (x ∷ xs) zero e = absurd (let z : ◌≡◌ {A = ℕ} 0 1 = cc in omega arith)
 nth_none (x ∷ xs) (suc k) e = omega (arith, nth_none xs k e)
 
+-- A node has no more children than it names.
+pub children_most : (es : List ℕ) (n : Node) → length (children es n) ≤ length (links n) + (list_of n).len
+children_most es n =
+    let len : length (cut es (list_of n).start (list_of n).len) ≤ (list_of n).len = simp length-take (omega arith) in
+    omega (arith, length-append (links n) (cut es (list_of n).start (list_of n).len), len)
+
 -- The first k children are reached.
 abbrev pub ReachedBelow : Layout → ℕ → Node → ℕ → Type 0
 ReachedBelow l x n k = (j c : ℕ) → j < k → slice_get (children l.entries n) j ≡ Some c → Reached l x (role_of_node n j) c
@@ -29,9 +35,6 @@ Followed l x n old new k all =
     × MatchBool all (ReachedBelow l x n k) (AllReached l x n → ⊥)
 
 module _ (l : Layout) (x : ℕ) (n : Node) (old : List ℕ) where
-  pub follow_none : Followed l x n old old 0 true
-  follow_none = (λ f t. tallied_as old f (λ y. f y + 0) (λ y. omega arith) t, λ j c lt at. absurd (omega arith))
-
   module _ (mid new : List ℕ) (k c : ℕ) (at : slice_get (children l.entries n) k ≡ Some c) (more : (f : ℕ → ℕ) → Tallies mid f → Tallies new (λ y. f y + same y c)) where
     counted : ((f : ℕ → ℕ) → Tallies old f → Tallies mid (λ y. f y + count y (take k (children l.entries n))))
         → (f : ℕ → ℕ) → Tallies old f → Tallies new (λ y. f y + count y (take (k + 1) (children l.entries n)))

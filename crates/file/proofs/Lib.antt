@@ -1,10 +1,8 @@
 pub mod Answering
 pub mod Asked
-pub mod Children
 pub mod Chunks
 pub mod Contained
 pub mod Copied
-pub mod Counted
 pub mod Cutting
 pub mod Determined
 pub mod Following
@@ -14,3 +12,4 @@ pub mod OneNode
 pub mod Parents
 pub mod Tallied
 pub mod TreeOf
+pub mod Words

@@ -2,8 +2,7 @@ use Rattle.std.proofs.Common.{◌+◌, ◌≤◌, ◌&&◌, MatchBool, length, s
 use Rattle.tree.specs.Heap.{children}
 use Rattle.file.specs.Found.{laid}
 use Rattle.file.specs.Steps.{Reached}
-use Rattle.file.proofs.Children.{children_most}
-use Rattle.file.proofs.Following.{Followed, nth_none, follow_more, follow_past, follow_all}
+use Rattle.file.proofs.Following.{children_most, Followed, nth_none, follow_more, follow_past, follow_all}
 use Rattle.file.proofs.sections.Sections.follow.Goals as goal
 use Rattle.file.proofs.sections.Sections.follow.Goals.{in-Some, in_default}
 
