@@ -66,6 +66,7 @@ impl TryFrom<Record> for Node {
     }
 }
 
+// The kinds in two halves, since one match of all is long.
 impl Record {
     // Literals, names, holes, spreads and arrays.
     fn simple(self) -> Option<Node>

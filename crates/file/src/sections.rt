@@ -87,7 +87,8 @@ impl<'a> Sections<'a> {
         list.start as usize + list.len as usize <= self.entries.len()
     }
 
-    // Whether the text lies within its section, and is lawful.
+    // Whether the text lies within its section, and is lawful. No function of another crate can be passed to a
+    // combinator by its name.
     fn has_text(&self, run: TextRun) -> bool
         ensures { MatchBool result (TextIn (laid self.now).text run) (TextIn (laid self.now).text run → ⊥) }
     {
@@ -189,7 +190,8 @@ fn may_begin(first: FirstChild, children: u32) -> bool
     }
 }
 
-// Counts one parent more for a node, up to 255. Nothing is known of a slice after `get_mut`, so the index is compared here.
+// Counts one parent more for a node, up to 255. The index is compared here, since no proof knows what a slice holds
+// after `get_mut`.
 fn tally(parents: &mut [u8], child: u32)
     ensures { (f : ℕ → ℕ) → Tallies parents.old f → Tallies parents.new (λ y. f y + same y child) }
 {

@@ -1,4 +1,4 @@
-// Loading a file.
+// Loading a file. The contract of `load` names `Loaded`, so it cannot stand in the file of that type.
 ghost use Rattle.std.specs.Prelude.{◌≡◌, ℕ, slice_index};
 ghost use Rattle.file.specs.Calls.{Loads};
 ghost use Rattle.file.specs.Steps.{Checked};
