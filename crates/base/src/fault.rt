@@ -23,7 +23,7 @@ pub enum Fault {
 }
 
 impl Fault {
-    // The number by which clients know the fault.
+    // The number by which clients know the fault, as the protocol has it.
     pub fn number(self) -> u32
         ensures { result ≡ number self }
     {

@@ -6,6 +6,7 @@ use super::fault::Fault;
 pub fn append<T: Copy>(items: &mut [T], count: usize, more: &[T]) -> Result<usize, Fault>
     ensures { Appended items.old count more.now items.new result }
 {
+    // By hand: what `get_mut` lends of a slice is not tied to the whole in the library's contract.
     if count > items.len() || more.len() > items.len() - count {
         return Err(Fault::Overfull);
     }

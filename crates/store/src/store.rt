@@ -3,7 +3,7 @@ ghost use Rattle.std.specs.List.{slice_get};
 
 use base::{Fault, append};
 
-// A run of items that grows within a slice that the caller lends: the first `len` of them are held.
+// A run of items that grows within a slice that the caller lends: the first `len` of them are held. There is no heap.
 #[derive(Drop)]
 pub struct Store<'a, T> {
     items: &'a mut [T],

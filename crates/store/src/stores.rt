@@ -35,7 +35,7 @@ impl<'a> Stores<'a> {
         }
     }
 
-    // How much the stores have room for.
+    // How much the stores have room for. Like `counts`, but the stores are of three types, and no closure serves three.
     pub fn rooms(&self) -> Counts
         ensures { result ≡ rooms_of self.now }
     {

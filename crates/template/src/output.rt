@@ -5,7 +5,7 @@ ghost use Rattle.template.specs.Output.{Fills};
 use super::sink::Sink;
 use base::append;
 
-// An output that the caller lends, and how much it would hold by now if all had room.
+// An output that the caller lends, since there is no heap, and how much it would hold by now if all had room.
 #[derive(Drop)]
 pub(crate) struct Output<'a> {
     bytes: &'a mut [u8],

@@ -15,6 +15,8 @@ pub fn character_len(lead: u8) -> usize
     }
 }
 
+// A function for each length: each has bounds of its own, and a length as a parameter would be matched on again.
+
 // The code point in one byte.
 fn one(a: u8) -> Option<u32>
     ensures { MatchOption result ((x : ℕ) → One a x → ⊥) (One a) }

@@ -6,7 +6,8 @@ ghost use Rattle.text.specs.Encoded.{IsFilled};
 
 use std::marker::Model;
 
-// The bytes of one character, the first `len` of four, and zeros behind them. Clauses see the list of the first.
+// The bytes of one character, the first `len` of four, and zeros behind them. Clauses see the list of the first. An
+// array and a length, since there is no heap.
 #[derive(Clone, Copy)]
 pub struct Encoded {
     bytes: [u8; 4],

@@ -25,7 +25,7 @@ fn seam(left: &[u8], right: &[u8]) -> Result<Option<u32>, Fault>
     Ok(pair(lead, c.code))
 }
 
-// Whether three runs fit a room.
+// Whether three runs fit a room. Their lengths are not added, since the sum may be past the largest number.
 fn fits(room: usize, front: &[u8], middle: &[u8], back: &[u8]) -> bool
     ensures { MatchBool result (length front.now + length middle.now + length back.now ≤ room) (room < length front.now + length middle.now + length back.now) }
 {

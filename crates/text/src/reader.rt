@@ -6,7 +6,7 @@ use super::surrogates::{is_leading, is_trailing};
 use base::Fault;
 
 // The characters of a stored text, one after the other: what is left of it, and whether a leading surrogate was read
-// last.
+// last. No iterator: a step that is refused stays where it is, and an iterator would have to end there.
 #[derive(Drop)]
 pub struct Characters<'a> {
     rest: &'a [u8],

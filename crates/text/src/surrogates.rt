@@ -2,7 +2,8 @@
 ghost use Rattle.std.specs.Prelude.{◌≡◌, true, false, ◌&&◌, MatchOption};
 ghost use Rattle.text.specs.Utf16.{leading, trailing, paired};
 
-// A leading surrogate, the first half of a pair.
+// A leading surrogate, the first half of a pair. It differs from a trailing one in the range alone, and a bound as a
+// parameter would be no plainer than the range.
 pub(crate) fn is_leading(code: u32) -> bool
     ensures { result ≡ leading code }
 {

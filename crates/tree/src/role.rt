@@ -44,7 +44,7 @@ pub enum Child {
     Entry(usize),
 }
 
-// The links in a record itself.
+// The links in a record itself, at most two, so that no list is needed.
 #[derive(Clone, Copy)]
 pub(crate) enum Links {
     Zero,

@@ -3,7 +3,7 @@ ghost use Rattle.std.specs.Prelude.{◌≡◌};
 
 use std::marker::PhantomData;
 
-// A piece of a store of `T`: where it begins, and how many items it has.
+// A piece of a store of `T`: where it begins, and how many items it has, as a record of the file says it.
 #[derive(Clone, Copy)]
 pub struct Run<T> {
     pub start: u32,
