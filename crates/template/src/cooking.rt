@@ -82,7 +82,8 @@ impl Withheld {
     {
         if let Some(both) = completed(self.lead, code) {
             self.lead = None;
-            return put_character(sink, both);
+            put_character(sink, both);
+            return;
         }
         self.put(sink);
         match leading_of(code) {

@@ -2,7 +2,7 @@
 ghost use Rattle.std.specs.Prelude.{ℕ, List};
 ghost use Rattle.template.specs.Sinks.{Adds};
 
-pub(crate) trait Sink: Drop {
+pub(crate) trait Sink {
     // The bytes that were taken between two states.
     ghost Took: { Self → List ℕ → Self → Type 0 };
 
