@@ -1,5 +1,5 @@
 // Cooking: the text that raw template text stands for.
-ghost use Rattle.std.specs.Prelude.{◌≡◌, ℕ, ◌≤◌, true, false, MatchOption};
+ghost use Rattle.std.specs.Prelude.{◌≡◌, ◌≤◌, true, false, MatchOption};
 ghost use Rattle.std.specs.Option.{ForSome};
 ghost use Rattle.std.proofs.Math.Utf8.{encode};
 ghost use Rattle.text.specs.Stored.{stored};

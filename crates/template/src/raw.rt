@@ -1,6 +1,5 @@
 // Raw template text, read part by part.
-ghost use Rattle.std.specs.Prelude.{◌≡◌, ◌<◌, length};
-ghost use Rattle.template.specs.Fronts.{Parts};
+ghost use Rattle.std.specs.Prelude.{◌≡◌};
 ghost use Rattle.template.specs.Raw.{left_of, part_bytes, NextPart};
 
 mod escapes;
@@ -33,17 +32,6 @@ impl<'a> RawPart<'a> {
     }
 }
 
-// The part at the front of raw template text, if that is well formed so far.
-fn first_part(raw: &[u8]) -> Option<RawPart<'_>>
-    requires { 0 < length raw.now }
-    ensures { Parts raw.now result }
-{
-    match raw {
-        [b'\\', after @ ..] => backslash(raw, after),
-        _ => plain(raw),
-    }
-}
-
 // The parts of raw template text, one after the other.
 #[derive(Drop)]
 pub struct RawReader<'a> {
@@ -62,10 +50,12 @@ impl<'a> RawReader<'a> {
         ensures { NextPart self.old self.new result }
     {
         let raw = self.rest;
-        if raw.is_empty() {
-            return Ok(None);
-        }
-        let part = first_part(raw).ok_or(Fault::Malformed)?;
+        let found = match raw {
+            [] => return Ok(None),
+            [b'\\', after @ ..] => backslash(raw, after),
+            _ => plain(raw),
+        };
+        let part = found.ok_or(Fault::Malformed)?;
         self.rest = &raw[part.bytes().len()..];
         Ok(Some(part))
     }

@@ -1,6 +1,6 @@
 // What stands behind a backslash: an escape or a line end.
-ghost use Rattle.std.specs.Prelude.{◌≡◌, ℕ, ◌<◌, true, false, ◌∷◌, ◌++◌, length, MatchOption, ◌≢◌, slice_index};
-ghost use Rattle.std.proofs.Math.Utf8.{scalar, encode};
+ghost use Rattle.std.specs.Prelude.{◌≡◌, ℕ, ◌<◌, false, ◌∷◌, ◌++◌, length, MatchOption, ◌≢◌, slice_index};
+ghost use Rattle.std.proofs.Math.Utf8.{encode};
 ghost use Rattle.template.specs.Grammar.{HexDigits, single_value, is_line_terminator};
 ghost use Rattle.template.specs.Fronts.{capped, Digits, EndsLine, EscapesTo, Parts};
 

@@ -1,5 +1,5 @@
 // Runs without a backslash.
-ghost use Rattle.std.specs.Prelude.{◌≡◌, ◌<◌, length, MatchOption, ◌≢◌, slice_index};
+ghost use Rattle.std.specs.Prelude.{◌<◌, length, MatchOption, ◌≢◌, slice_index};
 ghost use Rattle.template.specs.Fronts.{Frontless, Parts, PlainAt};
 
 use super::RawPart;
