@@ -1,6 +1,6 @@
 // A case: a file, stores to load it into, and what to do with it.
-ghost use Rattle.std.specs.Prelude.{OnOk};
-ghost use Rattle.cases.specs.Lines.{IsCase};
+ghost use Rattle.std.specs.Prelude.{IfOk, string_bytes};
+ghost use Rattle.cases.specs.Cases.{AsksCase, RoomsSaid, RunOf};
 
 use super::memory::Memory;
 use super::printing::Shown;
@@ -41,7 +41,7 @@ pub struct Case {
 impl Case {
     // Reads a line, with one space between words.
     pub fn parse(heap: Global, line: &[u8]) -> Result<Case, Flaw>
-        ensures { OnOk result (IsCase line.now) }
+        ensures { IfOk result (λ case. AsksCase line.now case.file.items case.rooms) }
     {
         let words = words_of(heap, line)?;
         let ["case", file, rooms, templates, power, calls @ ..] = words.as_slice() else {
@@ -60,7 +60,9 @@ impl Case {
     }
 
     // Loads the file, makes the calls, and answers what came of each.
-    pub fn run(&self, heap: Global) -> Result<String, AllocError> {
+    pub fn run(&self, heap: Global) -> Result<String, AllocError>
+        ensures { IfOk result (λ text. RunOf self.now.file.items self.now.rooms (string_bytes text)) }
+    {
         let mut memory = Memory::new(heap, self.rooms)?;
         match load(self.file.as_slice(), memory.stores()) {
             Ok(loaded) => format!(in heap;
@@ -101,7 +103,9 @@ impl fmt::Display for Outcome<'_, '_, '_> {
 }
 
 // The rooms of the three stores, in decimal, with commas between them.
-fn rooms_of(heap: Global, word: &str) -> Result<Counts, Flaw> {
+fn rooms_of(heap: Global, word: &str) -> Result<Counts, Flaw>
+    ensures { IfOk result (λ rooms. RoomsSaid rooms word.now) }
+{
     let rooms: Vec<&str> = word.split(',').collect(heap)?;
     let [nodes, entries, text] = rooms.as_slice() else {
         return Err(Flaw::Malformed);

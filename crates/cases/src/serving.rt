@@ -1,5 +1,5 @@
 // Answering lines, and standard input.
-ghost use Rattle.std.specs.Prelude.{IfOk};
+ghost use Rattle.std.specs.Prelude.{IfOk, string_bytes};
 ghost use Rattle.cases.specs.Lines.{AnswersLine};
 
 use super::case::Case;
@@ -9,7 +9,7 @@ use std::io;
 
 // The answer to a line, as it is printed: of a case what comes of it, of any other line the reply.
 pub fn answer_line(heap: Global, line: &[u8]) -> Result<String, AllocError>
-    ensures { IfOk result (AnswersLine line.now) }
+    ensures { IfOk result (λ text. AnswersLine line.now (string_bytes text)) }
 {
     match recognized(Case::parse(heap, line))? {
         Some(case) => case.run(heap),
