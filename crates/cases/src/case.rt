@@ -65,13 +65,11 @@ impl Case {
     {
         let mut memory = Memory::new(heap, self.rooms)?;
         match load(self.file.as_slice(), memory.stores()) {
-            Ok(loaded) => format!(in heap;
-                "{}",
-                Outcome {
-                    calls: self.calls.as_slice(),
-                    loaded: &loaded
-                }
-            ),
+            Ok(loaded) => {
+                let calls = self.calls.as_slice();
+                let loaded = &loaded;
+                format!(in heap; "{}", Outcome { calls, loaded })
+            }
             Err(refused) => format!(in heap; "{}", Answer::Refused(refused.fault)),
         }
     }

@@ -23,14 +23,9 @@ impl Run {
 
 impl fmt::Display for Run {
     fn fmt<W: fmt::Write>(&self, f: &mut fmt::Formatter<W>) -> fmt::Result {
-        let len = self.len;
         match self.verdict {
-            Ok(()) => write!(f, "ok*{len}"),
-            Err(fault) => {
-                let number = fault.number();
-                let node = fault.node();
-                write!(f, "{number}@{node}*{len}")
-            }
+            Ok(()) => write!(f, "ok*{}", self.len),
+            Err(fault) => write!(f, "{}@{}*{}", fault.number(), fault.node(), self.len),
         }
     }
 }
