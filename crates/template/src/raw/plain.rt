@@ -18,7 +18,7 @@ fn past_plain(bytes: &[u8]) -> Option<&[u8]>
     }
 }
 
-// The longest run without a backslash.
+// The longest run without a backslash. The caller has looked at the first byte.
 pub(crate) fn plain(raw: &[u8]) -> Option<RawPart<'_>>
     requires { (0 < length raw.now) × (slice_index raw.now 0 ≢ 0x5C) }
     ensures { Parts raw.now result }
