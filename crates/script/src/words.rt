@@ -10,3 +10,14 @@ pub fn words_of(heap: Global, line: &[u8]) -> Result<Vec<&str>, Flaw>
 {
     Ok(from_utf8(line)?.split(' ').collect(heap)?)
 }
+
+#[cfg(test)]
+mod tests {
+    use super::*;
+
+    #[test]
+    fn words_between_single_spaces(rt: HostRuntime) {
+        let words = words_of(rt.alloc(), b"cook 41  7").expect(&rt, "memory for four words");
+        assert_eq!(rt; words.as_slice(), ["cook", "41", "", "7"].as_slice());
+    }
+}
