@@ -2,7 +2,8 @@ ghost use Rattle.base.specs.Runs.{Appended};
 
 use super::fault::Fault;
 
-// Writes `more` into `items` behind the first `count` of them, and answers how many are in use then; or refuses it whole.
+// Writes `more` into `items` behind the first `count` of them, and answers how many are in use then; or refuses it
+// whole.
 pub fn append<T: Copy>(items: &mut [T], count: usize, more: &[T]) -> Result<usize, Fault>
     ensures { Appended items.old count more.now items.new result }
 {

@@ -115,7 +115,7 @@ fn rooms_of(heap: Global, word: &str) -> Result<Counts, Flaw>
     })
 }
 
-// What is switched off by 0, and on by 1.
+// What is switched off by 0, and on by 1. The library reads a `bool` otherwise.
 fn switch_of(word: &str) -> Result<bool, Flaw> {
     match word {
         "0" => Ok(false),

@@ -4,8 +4,8 @@
 //                           what comes of loading a file into stores of these sizes, and of each call; `tree` is the one
 //                           call there is
 //
-// A case that is not refused is answered `loaded; TREE..; end ROOT 0 NODES ENTRIES BYTES`. Every other line is answered as
-// the protocol for texts has it.
+// A case that is not refused is answered `loaded; TREE..; end ROOT 0 NODES ENTRIES BYTES`. Every other line is answered
+// as the protocol for texts has it.
 
 #![tactic(auto)]
 

@@ -1,14 +1,15 @@
 ghost use Rattle.std.specs.Prelude.{◌≡◌, IfOk};
 
+use file::{MAX_ENTRIES, MAX_NODES, MAX_TEXT};
 use std::alloc::{AllocError, Global};
 use store::{Counts, Store, Stores};
 use tree::Node;
 
 // The most that a file may hold.
 const LIMITS: Counts = Counts {
-    nodes: 4_096,
-    entries: 16_384,
-    text: 65_536,
+    nodes: MAX_NODES,
+    entries: MAX_ENTRIES,
+    text: MAX_TEXT,
 };
 
 // Memory for the stores of one payoff.

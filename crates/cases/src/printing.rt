@@ -64,8 +64,9 @@ impl<'s, 'a> Place<'s, 'a> {
         Place::of(self.stores, number)
     }
 
-    // Writes the tree of the node: what stands before its children, the children, and what stands behind them. No path in
-    // a loaded tree has more nodes than there are, so that `fuel` lasts.
+    // Writes the tree of the node: what stands before its children, the children, and what stands behind them. No path
+    // in a loaded tree has more nodes than there are, so that `fuel` lasts. What stands before a child depends on its
+    // number.
     fn show<W: fmt::Write>(self, f: &mut fmt::Formatter<W>, fuel: usize) -> fmt::Result {
         self.open(f)?;
         if fuel > 0 {

@@ -11,11 +11,12 @@ abbrev pub Lowest : (ℕ → Type 0) → ℕ → Option ℕ → Type 0
 Lowest P n None = (y : ℕ) → y < n → P y
 Lowest P n (Some x) = (x < n) × ((y : ℕ) → y < x → P y) × (P x → ⊥)
 
--- The node x is not the one with a wrong link, and has as many parents as it should.
+-- Whether x is the node that is named.
 abbrev pub is_named : Option ℕ → ℕ → Bool
 is_named None x = false
 is_named (Some w) x = w == x
 
+-- The node x is not the one with a wrong link, and has as many parents as it should.
 abbrev pub right : List ℕ → Option ℕ → ℕ → Bool
 right table wrong x = not (is_named wrong x) && (slice_index table x == due (length table) x)
 

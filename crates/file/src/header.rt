@@ -11,11 +11,11 @@ const HEADER: usize = 32;
 const VERSION: u32 = 1;
 
 // The limits of a payoff.
-pub(crate) const MAX_NODES: usize = 4_096;
+pub const MAX_NODES: usize = 4_096;
 
-const MAX_ENTRIES: usize = 16_384;
+pub const MAX_ENTRIES: usize = 16_384;
 
-const MAX_TEXT: usize = 65_536;
+pub const MAX_TEXT: usize = 65_536;
 
 // Where the header says that a section is: how many items it has, and where it begins.
 #[derive(Clone, Copy)]
@@ -55,8 +55,7 @@ impl Header {
     pub(crate) fn is_in_limits(self) -> bool
         ensures { MatchBool result (InLimits self) (InLimits self → ⊥) }
     {
-        self.nodes.count >= 1
-            && self.nodes.count <= MAX_NODES
+        (1..=MAX_NODES).contains(&self.nodes.count)
             && self.entries.count <= MAX_ENTRIES
             && self.text.count <= MAX_TEXT
     }

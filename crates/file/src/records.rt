@@ -28,7 +28,8 @@ impl<'a, 't> Records<'a, 't> {
     ghost use Rattle.file.specs.Lawful.{LawfulRoot};
     ghost use Rattle.file.specs.Steps.{ChecksRecords, LinksChecked, FitsIn, CopiesNodes, CopiesTo};
 
-    // Asks of each record whether it is that of a node which is lawful on its own. The table of zeros is for the parents.
+    // Asks of each record whether it is that of a node which is lawful on its own, by number, as a refusal names it.
+    // The table of zeros is for the parents.
     pub(crate) fn check(
         sections: Sections<'a>,
         table: &'t mut [u8; MAX_NODES],
@@ -83,13 +84,13 @@ impl<'a, 't> Records<'a, 't> {
         (0..self.parents.len()).find(|&x| !self.is_right(x))
     }
 
-    // Whether the node x has no wrong link, as far as is known, and as many parents as it should: one, and the last node
-    // none.
+    // Whether the node x has no wrong link, as far as is known, and as many parents as it should: one, and the last
+    // node none.
     fn is_right(&self, x: usize) -> bool
         requires { x < length self.now.parents.now }
         ensures { result ≡ right self.now.parents.now self.now.wrong x }
     {
-        let due = if x + 1 < self.parents.len() { 1 } else { 0 };
+        let due = u8::from(x + 1 < self.parents.len());
         self.wrong != Some(x) && self.parents[x] == due
     }
 

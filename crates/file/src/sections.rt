@@ -27,7 +27,7 @@ pub struct Sections<'a> {
     pub text: &'a [u8],
     ghost some_node: { 1 ≤ length nodes.now },
     ghost few_nodes: { length nodes.now ≤ MAX_NODES },
-    // As the arrays' type says, for the proofs.
+    // Each record has RECORD bytes: its type says so too, but a proof needs it as a fact.
     ghost whole_records: { AllOfLength RECORD nodes.now },
 }
 
@@ -87,15 +87,11 @@ impl<'a> Sections<'a> {
         list.start as usize + list.len as usize <= self.entries.len()
     }
 
-    // Whether the text lies within its section, and is lawful. No function of another crate can be passed to a
-    // combinator by its name.
+    // Whether the text lies within its section, and is lawful.
     fn has_text(&self, run: TextRun) -> bool
         ensures { MatchBool result (TextIn (laid self.now).text run) (TextIn (laid self.now).text run → ⊥) }
     {
-        match run.of(self.text) {
-            Some(text) => is_lawful(text),
-            None => false,
-        }
+        run.of(self.text).is_some_and(|text| is_lawful(text))
     }
 
     // Whether both texts lie within their section, and the first cooks to the second.
@@ -157,7 +153,8 @@ impl<'a> Sections<'a> {
                 .is_some_and(|node| role.admits(node.sort()))
     }
 
-    // Counts the node x as a parent of each of its children, and answers whether it may have them all.
+    // Counts the node x as a parent of each of its children, and answers whether it may have them all. A child's role
+    // is asked by its number.
     pub(crate) fn follow(&self, x: usize, node: Node, parents: &mut [u8]) -> bool
         ensures reached { MatchBool result (AllReached (laid self.now) x node) (AllReached (laid self.now) x node → ⊥) }
         ensures counted { (f : ℕ → ℕ) → Tallies parents.old f → Tallies parents.new (λ y. f y + count y (children (laid self.now).entries node)) }

@@ -1,9 +1,10 @@
-// Answers the vectors of files, which standard input holds as a command on each line: a request of the line protocol, or
+// Answers the vectors of files, which standard input holds as a command on each line: a request of the line protocol,
+// or
 //
 //     damage HEX POS    loads the file with each value of the byte at POS in turn
 //
-// The answer is the 256 verdicts, each with how often it came in a row, as in `1@0*1 ok*1 1@0*254`. A verdict is `ok`, or
-// the fault's number and node.
+// The answer is the 256 verdicts, each with how often it came in a row, as in `1@0*1 ok*1 1@0*254`. A verdict is `ok`,
+// or the fault's number and node.
 
 #![tactic(auto)]
 

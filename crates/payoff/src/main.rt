@@ -1,5 +1,5 @@
-// Texts, raw template text, and payoffs in files: what the library does, on one label, on a quote's payoff, on files, or
-// for each request of a script.
+// Texts, raw template text, and payoffs in files: what the library does, on one label, on a quote's payoff, on files,
+// or for each request of a script.
 
 #![tactic(auto)]
 

@@ -44,8 +44,8 @@ impl Call {
         }
     }
 
-    // What the call makes of a text, with an output of `room` bytes. No call writes more than twice as many bytes as the
-    // text has, so a larger output is not made.
+    // What the call makes of a text, with an output of `room` bytes. No call writes more than twice as many bytes as
+    // the text has, so a larger output is not made.
     pub fn run(self, heap: Global, text: &[u8], room: usize) -> Result<Vec<u8>, Failure>
         ensures { Answers self text.now (min room (2 * length text.now)) result }
     {

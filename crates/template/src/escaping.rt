@@ -37,8 +37,6 @@ fn surrogate_escape(code: u32) -> [u8; 6]
 
 // Hands on one character, escaped.
 fn escape_character<S: Sink>(sink: &mut S, c: Character<'_>)
-    requires code { c.code ≤ 0x10FFFF }
-    requires bytes { c.bytes.now ≡ encode c.code }
     ensures { Adds S.Took sink.old (encodes (escaped c.entry.code)) sink.new }
 {
     match char::from_u32(c.code) {

@@ -32,8 +32,8 @@ impl<'a> Output<'a> {
 impl Sink for Output<'_> {
     ghost Took = { Fills };
 
-    // Writes the piece behind what was written, if it ends within the output, and counts it in any case. The count stops
-    // at the largest number, which is more than any output holds.
+    // Writes the piece behind what was written, if it ends within the output, and counts it in any case. The count
+    // stops at the largest number, which is more than any output holds.
     fn take(&mut self, piece: &[u8]) {
         let end = self.len.saturating_add(piece.len());
         self.len = append(self.bytes, self.len, piece).unwrap_or(end);

@@ -19,8 +19,8 @@ pub(crate) trait Walk {
 }
 
 // Writes the text to the front of `out`, and answers how long it is; or leaves `out` as it was, for want of room. The
-// first walk measures, and the second one writes. That it is one text at most is asked of the caller, since a law of the
-// trait may rest on no proof of this crate.
+// first walk measures, and the second one writes. That it is one text at most is asked of the caller, since a law of
+// the trait may rest on no proof of this crate.
 pub(crate) fn write_whole<W: Walk>(text: &W, out: &mut [u8]) -> Result<usize, Fault>
     requires { (us vs : List ℕ) → W.Means text.now us → W.Means text.now vs → us ≡ vs }
     ensures { Writes (W.Means text.now) W.form out.old out.new result }

@@ -1,7 +1,11 @@
-// A character of a stored text: its code point, which may be a surrogate, and its bytes, a part of the text. The code
-// point is a number: a type that keeps its bound was tried, and beside a reference it does not go through `?`.
+ghost use Rattle.std.specs.Prelude.{◌≡◌, ◌≤◌};
+ghost use Rattle.std.proofs.Math.Utf8.{encode};
+
+// A character of a stored text: its code point, which may be a surrogate, and its bytes, a part of the text.
 #[derive(Clone, Copy)]
 pub struct Character<'a> {
     pub code: u32,
     pub bytes: &'a [u8],
+    ghost bounded: { code ≤ 0x10FFFF },
+    ghost spelled: { bytes.now ≡ encode code },
 }

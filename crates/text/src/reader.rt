@@ -26,7 +26,8 @@ impl<'a> Characters<'a> {
         }
     }
 
-    // The next character, or None at the end. A high-low pair in two characters is refused, as it is one in stored form.
+    // The next character, or None at the end. A high-low pair in two characters is refused, as it is one in stored
+    // form.
     pub fn next(&mut self) -> Result<Option<Character<'a>>, Fault>
         ensures { Next self.old self.new result }
     {
