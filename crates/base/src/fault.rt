@@ -38,7 +38,7 @@ impl Fault {
         }
     }
 
-    // The layer that refused.
+    // The layer that refused, as the protocol has it.
     pub fn layer(self) -> u32
         ensures { result ≡ layer self }
     {

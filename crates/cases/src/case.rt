@@ -11,7 +11,7 @@ use std::fmt;
 use std::str::FromStr;
 use store::Counts;
 
-// A call on a loaded file.
+// A call on a loaded file, which a word names.
 #[derive(Clone, Copy)]
 enum CaseCall {
     Tree,

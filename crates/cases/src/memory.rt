@@ -12,7 +12,7 @@ const LIMITS: Counts = Counts {
     text: MAX_TEXT,
 };
 
-// Memory for the stores of one payoff.
+// Memory for the stores of one payoff, whose items are of three types.
 #[derive(Drop)]
 pub struct Memory {
     nodes: Vec<Node>,

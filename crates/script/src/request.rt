@@ -12,7 +12,7 @@ use base::Fault;
 use std::alloc::Global;
 use std::str::{FromStr, from_utf8};
 
-// A call of the library.
+// A call of the library, which a word names.
 #[derive(Clone, Copy, Debug, PartialEq, Eq)]
 pub enum Call {
     Escape,
