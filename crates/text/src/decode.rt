@@ -45,7 +45,7 @@ fn three(a: u8, b: u8, c: u8) -> Option<u32>
         (0xE0..=0xEF, 0x80..=0xBF, 0x80..=0xBF) => (a - 0xE0) as u32 * 0x1000
             + (b - 0x80) as u32 * 0x40
             + (c - 0x80) as u32,
-        _ => 0,
+        _ => return None,
     };
     if code < 0x800 { None } else { Some(code) }
 }
@@ -59,7 +59,7 @@ fn four(a: u8, b: u8, c: u8, d: u8) -> Option<u32>
             + (b - 0x80) as u32 * 0x1000
             + (c - 0x80) as u32 * 0x40
             + (d - 0x80) as u32,
-        _ => 0,
+        _ => return None,
     };
     match code {
         0x10000..=0x10FFFF => Some(code),
