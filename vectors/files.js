@@ -1,9 +1,9 @@
 // Makes the vectors of files: node vectors/files.js
 //
 // Writes crates/filevectors/stdin, a command on each line, and crates/filevectors/stdout, the answer to each;
-// crates/payoff/data/quote.payoff; and checks the example of docs/FORMAT.md and what README.md shows of the quote. The
-// answers are those of the checker in format.js. Random trees and damage come from a fixed start, so that every run
-// writes the same files.
+// crates/payoff/data/quote.payoff, and crates/payoff/stdout, what is printed of it; and checks the example of
+// docs/FORMAT.md and what README.md shows of the quote. The answers are those of the checker in format.js. Random trees
+// and damage come from a fixed start, so that every run writes the same files.
 'use strict';
 const fs = require('fs');
 const path = require('path');
@@ -566,13 +566,15 @@ const write = (...names) => (content) => {
 write('crates', 'filevectors', 'stdin')(lines.map(([command]) => command + '\n').join(''));
 write('crates', 'filevectors', 'stdout')(lines.map(([, answer]) => answer + '\n').join(''));
 const quote = parts(QUOTE);
+const shown = [`file      quote.payoff, ${bytesOf(quote).length} bytes`,
+  `holds     ${quote.nodes.length} nodes, ${quote.entries.length} list entries, ${quote.text.length} bytes of text`,
+  `tree      ${printed(QUOTE)}`];
 write('crates', 'payoff', 'data', 'quote.payoff')(bytesOf(quote));
+write('crates', 'payoff', 'stdout')(shown.map((line) => line + '\n').join(''));
 const readme = path.join(root, 'README.md');
 if (fs.existsSync(readme)) {
-  const shown = [`file      quote.payoff, ${bytesOf(quote).length} bytes`,
-    `holds     ${quote.nodes.length} nodes, ${quote.entries.length} list entries, ${quote.text.length} bytes of text`,
-    `tree      ${printed(QUOTE)}`].map((line) => `    ${line}\n`).join('');
-  if (!fs.readFileSync(readme, 'utf8').includes(shown)) throw new Error('README.md shows another tree of the quote');
+  const indented = shown.map((line) => `    ${line}\n`).join('');
+  if (!fs.readFileSync(readme, 'utf8').includes(indented)) throw new Error('README.md shows another tree of the quote');
 }
 for (const key of Object.keys(counts).sort()) console.log(`${counts[key]} ${key}`);
 console.log(`${lines.length} in all, ${damagedBytes} bytes damaged`);

@@ -1,5 +1,5 @@
-// Texts, raw template text, and payoffs in files: what the library does, on one label, on a quote's payoff, on files,
-// or for each request of a script.
+// Texts, raw template text, and payoffs in files: what the library does, on a quote's payoff, on the label of a quote,
+// on files, or for each request of a script.
 
 #![tactic(auto)]
 
@@ -13,30 +13,27 @@ use std::process::ExitCode;
 use std::rt::{Env, Files};
 
 const HELP: &str =
-    "payoff              escape the label of a quote into template text, cook it back, and compare
-payoff label        the same
-payoff quote        load a quote's payoff from the file quote.payoff of this folder, and print its tree
+    "payoff              load the payoff of a quote from the file quote.payoff of this folder, and print its tree
+payoff label        escape the label of a quote into template text, cook it back, and compare
 payoff show FILE..  print the tree of each file, as PATH: TREE; the status is 1 where a file has none
 payoff script       answer the requests on standard input, one to a line:
                         escape HEX [ROOM]    the raw template text of a text
                         cook HEX [ROOM]      the text that raw template text cooks to
-                    HEX is lower-case hexadecimal, two digits to a byte; ROOM is the size of the output in bytes
-                    the answer is: ok HEX, refused NUMBER layer LAYER node NODE, or malformed
-payoff cases        the same, and with it
                         case HEX NODES,ENTRIES,BYTES TEMPLATES POWER CALL..
                                              what comes of loading a file, and of each call
+                    HEX is lower-case hexadecimal, two digits to a byte; ROOM is the size of the output in bytes
                     NODES,ENTRIES,BYTES are the sizes of the stores; TEMPLATES and POWER are 0 or 1; a CALL is tree
+                    the answer is: ok HEX, refused NUMBER layer LAYER node NODE, or malformed
                     a loaded case is answered: loaded; TREE..; end ROOT 0 NODES ENTRIES BYTES
 payoff help         print this";
 
 // What the program is asked to do.
 #[derive(Drop)]
 enum Command {
-    Label,
     Quote,
+    Label,
     Show(Vec<String>),
     Script,
-    Cases,
     Help,
 }
 
@@ -45,18 +42,16 @@ impl Command {
     fn parse(heap: Global, mut args: env::Args) -> anyhow::Result<Command> {
         let _name = args.next();
         let Some(word) = args.next() else {
-            return Ok(Command::Label);
+            return Ok(Command::Quote);
         };
         let rest: Vec<String> = args.collect(heap)?;
         match (word.as_str(), rest.is_empty()) {
             ("show", false) => Ok(Command::Show(rest)),
             ("show", true) => bail!("show which files? See payoff help"),
-            (_, false) => bail!("more than one word: see payoff help"),
             ("label", true) => Ok(Command::Label),
-            ("quote", true) => Ok(Command::Quote),
             ("script", true) => Ok(Command::Script),
-            ("cases", true) => Ok(Command::Cases),
             ("help", true) => Ok(Command::Help),
+            ("label" | "script" | "help", false) => bail!("more than one word: see payoff help"),
             _ => bail!("no command `{word}`: see payoff help"),
         }
     }
@@ -74,11 +69,10 @@ fn main(rt: HostRuntime) -> ExitCode {
 
 fn run(rt: &(impl Env + Files + Input + Print + Eprint + AllocGlobal)) -> anyhow::Result<()> {
     match Command::parse(rt.alloc(), env::args(rt)?)? {
-        Command::Label => label::show(rt)?,
         Command::Quote => files::show_quote(rt)?,
+        Command::Label => label::show(rt)?,
         Command::Show(paths) => files::show_all(rt, paths.as_slice())?,
-        Command::Script => script::serve(rt)?,
-        Command::Cases => cases::serve(rt)?,
+        Command::Script => cases::serve(rt)?,
         Command::Help => println!(rt; "{HELP}")?,
     }
     Ok(())
