@@ -1,7 +1,8 @@
 // Makes the vectors of template text, units, joining and comparing: node vectors/make.js
 //
 // Writes crates/vectors/stdin, a command on each line, and crates/vectors/stdout, the answer to each; the same of comparing
-// in crates/comparevectors; and some lines of the line protocol in crates/linevectors.
+// in crates/comparevectors; and some lines of the line protocol in crates/linevectors. The cases among those are taken
+// from what files.js wrote, which is run first.
 // What a raw text cooks to, the units of a text and what two texts join to are what this JavaScript engine
 // makes of them. The random texts come from a fixed start, so that every run writes the same files.
 'use strict';
@@ -298,17 +299,36 @@ for (const bytes of BAD) {
 ['cooks', 'cooks 61 6', 'cooks 6 61', 'cooks 61 61 ', 'cooks 61 61 1', 'cooks 61 6A']
   .forEach((line) => vector('no comparison', line, 'malformed'));
 
+// ---- Lines of the line protocol ----
+
+const crates = path.join(__dirname, '..', 'crates');
+
+// Of the requests about texts a sample, and all lines that are no request.
+const textLines = vectors.filter(([command]) => !/^(lawful|units|unit|join) /.test(command))
+  .filter(([, answer], i) => i % 30 === 0 || answer === 'malformed');
+
+// Of the cases nine with each kind of answer: loaded, each refusal, malformed. Long ones are left out.
+function caseLines() {
+  const linesOf = (name) => fs.readFileSync(path.join(crates, 'filevectors', name), 'utf8').split('\n');
+  const [commands, answers] = [linesOf('stdin'), linesOf('stdout')];
+  const kinds = {};
+  commands.forEach((command, i) => {
+    if (!command.startsWith('case ') || command.length >= 1000) return;
+    const [kind] = /^[a-z]+( \d+)?/.exec(answers[i]);
+    (kinds[kind] ||= []).push([command, answers[i]]);
+  });
+  return Object.values(kinds).flatMap((cases) => cases.filter((_, i) => i % Math.ceil(cases.length / 9) === 0));
+}
+
 // ---- The files ----
 
 function write(crate, made) {
-  const folder = path.join(__dirname, '..', 'crates', crate);
+  const folder = path.join(crates, crate);
   fs.writeFileSync(path.join(folder, 'stdin'), made.map(([command]) => command + '\n').join(''));
   fs.writeFileSync(path.join(folder, 'stdout'), made.map(([, answer]) => answer + '\n').join(''));
 }
 write('vectors', vectors);
 write('comparevectors', comparisons);
-// Of the line protocol a sample of the requests, and all lines that are none.
-write('linevectors', vectors.filter(([command]) => !/^(lawful|units|unit|join) /.test(command))
-  .filter(([, answer], i) => i % 30 === 0 || answer === 'malformed'));
+write('linevectors', [...textLines, ...caseLines()]);
 for (const key of Object.keys(counts).sort()) console.log(`${counts[key]} ${key}`);
 console.log(`${vectors.length} and ${comparisons.length} in all`);

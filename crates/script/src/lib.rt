@@ -26,7 +26,6 @@ use request::Request;
 pub use request::{Call, number_of};
 pub use serving::answer_lines;
 use std::alloc::{AllocError, Global};
-use std::io;
 pub use words::words_of;
 
 // The answer to a line, which stands without its line feed.
@@ -37,9 +36,4 @@ pub fn reply(heap: Global, line: &[u8]) -> Result<Answer, AllocError>
         Some(request) => Answer::try_from(request.run(heap)),
         None => Ok(Answer::Malformed),
     }
-}
-
-// Answers each line of standard input on standard output.
-pub fn serve(rt: &(impl Input + Print + AllocGlobal)) -> io::Result<()> {
-    answer_lines(rt, reply)
 }
