@@ -16,44 +16,44 @@ module _ (w : World) where
     unfolding mean
 
     forget : (x : Expression) → Refines w Mode.free (mean w Mode.calm x).run (mean w Mode.free x).run
-    forget (Expression.string _) = loosened (λ s r t d. d)
-    forget (Expression.number _) = loosened (λ s r t d. d)
-    forget (Expression.boolean _) = loosened (λ s r t d. d)
-    forget Expression.null = loosened (λ s r t d. d)
-    forget (Expression.name _) = loosened (λ s r t d. d)
-    forget (Expression.array xs) = loosened (then_first (forget_elements xs))
-    forget (Expression.static_member x _) = loosened (then_first (then_first (forget x)))
-    forget (Expression.computed_member x y) = loosened (then_first (then_both (forget x) (λ v. then_first (forget y))))
-    forget (Expression.call f xs) = loosened (then_both (callee_refines w Mode.free _ _ _ _ (forget f) (forget_reference f)) (λ g. then_first (forget_arguments xs)))
-    forget (Expression.template ps) = loosened (then_first (forget_pieces ps []))
-    forget (Expression.unary _ x) = loosened (then_first (forget x))
-    forget (Expression.binary _ x y) = loosened (then_both (forget x) (λ v. then_first (forget y)))
-    forget (Expression.opaque b _ xs) = loosened (λ s r t. steps_all (forget_children xs b))
+    forget (Expression.string _ _) = loosened (λ s r t d. d)
+    forget (Expression.number _ _) = loosened (λ s r t d. d)
+    forget (Expression.boolean _ _) = loosened (λ s r t d. d)
+    forget (Expression.null _) = loosened (λ s r t d. d)
+    forget (Expression.name _ _) = loosened (λ s r t d. d)
+    forget (Expression.array _ xs) = loosened (then_first (forget_elements xs))
+    forget (Expression.static_member _ x _) = loosened (then_first (then_first (forget x)))
+    forget (Expression.computed_member _ x y) = loosened (then_first (then_both (forget x) (λ v. then_first (forget y))))
+    forget (Expression.call _ f xs) = loosened (then_both (callee_refines w Mode.free _ _ _ _ (forget f) (forget_reference f)) (λ g. then_first (forget_arguments xs)))
+    forget (Expression.template _ ps) = loosened (then_first (forget_pieces ps []))
+    forget (Expression.unary _ _ x) = loosened (then_first (forget x))
+    forget (Expression.binary _ _ x y) = loosened (then_both (forget x) (λ v. then_first (forget y)))
+    forget (Expression.opaque _ b _ xs) = loosened (λ s r t. steps_all (forget_children xs b))
 
     forget_reference : (x : Expression) → RefinesReference w Mode.free (mean w Mode.calm x).refers (mean w Mode.free x).refers
-    forget_reference (Expression.string _) = tt
-    forget_reference (Expression.number _) = tt
-    forget_reference (Expression.boolean _) = tt
-    forget_reference Expression.null = tt
-    forget_reference (Expression.name _) = tt
-    forget_reference (Expression.array xs) = tt
-    forget_reference (Expression.static_member x _) = then_first (forget x)
-    forget_reference (Expression.computed_member x y) = then_both (forget x) (λ v. then_first (forget y))
-    forget_reference (Expression.call f xs) = tt
-    forget_reference (Expression.template ps) = tt
-    forget_reference (Expression.unary _ x) = tt
-    forget_reference (Expression.binary _ x y) = tt
-    forget_reference (Expression.opaque b _ xs) = tt
+    forget_reference (Expression.string _ _) = tt
+    forget_reference (Expression.number _ _) = tt
+    forget_reference (Expression.boolean _ _) = tt
+    forget_reference (Expression.null _) = tt
+    forget_reference (Expression.name _ _) = tt
+    forget_reference (Expression.array _ xs) = tt
+    forget_reference (Expression.static_member _ x _) = then_first (forget x)
+    forget_reference (Expression.computed_member _ x y) = then_both (forget x) (λ v. then_first (forget y))
+    forget_reference (Expression.call _ f xs) = tt
+    forget_reference (Expression.template _ ps) = tt
+    forget_reference (Expression.unary _ _ x) = tt
+    forget_reference (Expression.binary _ _ x y) = tt
+    forget_reference (Expression.opaque _ b _ xs) = tt
 
     forget_elements : (xs : Elements) → Refines w Mode.free (elements w Mode.calm xs) (elements w Mode.free xs)
     forget_elements Elements.no_elements = λ s r t d. d
-    forget_elements (Elements.hole xs) = then_first (forget_elements xs)
-    forget_elements (Elements.spread x xs) = then_both (loosened (then_first (forget x))) (λ v. then_first (forget_elements xs))
+    forget_elements (Elements.hole _ xs) = then_first (forget_elements xs)
+    forget_elements (Elements.spread _ x xs) = then_both (loosened (then_first (forget x))) (λ v. then_first (forget_elements xs))
     forget_elements (Elements.item x xs) = then_both (forget x) (λ v. then_first (forget_elements xs))
 
     forget_arguments : (xs : Arguments) → Refines w Mode.free (arguments w Mode.calm xs) (arguments w Mode.free xs)
     forget_arguments Arguments.no_arguments = λ s r t d. d
-    forget_arguments (Arguments.spread_argument x xs) = then_both (loosened (then_first (forget x))) (λ v. then_first (forget_arguments xs))
+    forget_arguments (Arguments.spread_argument _ x xs) = then_both (loosened (then_first (forget x))) (λ v. then_first (forget_arguments xs))
     forget_arguments (Arguments.argument x xs) = then_both (forget x) (λ v. then_first (forget_arguments xs))
 
     forget_pieces : (ps : Pieces) (u : Units) → Refines w Mode.free (pieces w Mode.calm u ps) (pieces w Mode.free u ps)

@@ -110,29 +110,29 @@ module _ (w : World) where
     unfolding mean
 
     mean_single : (c : Mode) (x : Expression) → Once (mean w c x).run × OnceReference (mean w c x).refers
-    mean_single c (Expression.string u) = (watched_single c (returns_single _ _ _), tt)
-    mean_single c (Expression.number u) = (watched_single c (returns_single _ _ _), tt)
-    mean_single c (Expression.boolean u) = (watched_single c (returns_single _ _ _), tt)
-    mean_single c Expression.null = (watched_single c (returns_single _ _ _), tt)
-    mean_single c (Expression.name u) = (watched_single c (asks_single _ _ _), tt)
-    mean_single c (Expression.array xs) = (watched_single c (then_single (elements_single c xs) (λ v. returns_single _ _ _)), tt)
-    mean_single c (Expression.static_member x k) = let a = then_single (mean_single c x).0 (λ v. returns_single _ _ _) in (watched_single c (then_single a get_value_single), a)
-    mean_single c (Expression.computed_member x k) = let a = then_single (mean_single c x).0 (λ v. then_single (mean_single c k).0 (λ v. returns_single _ _ _)) in (watched_single c (then_single a get_value_single), a)
-    mean_single c (Expression.call f xs) = (watched_single c (then_single (callee_single _ _ (mean_single c f).0 (mean_single c f).1) (λ g. then_single (arguments_single c xs) (λ vs. apply_single vs g))), tt)
-    mean_single c (Expression.template ps) = (watched_single c (then_single (pieces_single c [] ps) (λ v. returns_single _ _ _)), tt)
-    mean_single c (Expression.unary o x) = (watched_single c (then_single (mean_single c x).0 (λ v. settles_single _ _ _)), tt)
-    mean_single c (Expression.binary o x y) = (watched_single c (then_single (mean_single c x).0 (λ v. then_single (mean_single c y).0 (λ v. settles_single _ _ _))), tt)
-    mean_single c (Expression.opaque b k xs) = (watched_single c (λ s r t r2 t2 d d2. steps_single (children_single c b xs) d r2 t2 d2), tt)
+    mean_single c (Expression.string _ u) = (watched_single c (returns_single _ _ _), tt)
+    mean_single c (Expression.number _ u) = (watched_single c (returns_single _ _ _), tt)
+    mean_single c (Expression.boolean _ u) = (watched_single c (returns_single _ _ _), tt)
+    mean_single c (Expression.null _) = (watched_single c (returns_single _ _ _), tt)
+    mean_single c (Expression.name _ u) = (watched_single c (asks_single _ _ _), tt)
+    mean_single c (Expression.array _ xs) = (watched_single c (then_single (elements_single c xs) (λ v. returns_single _ _ _)), tt)
+    mean_single c (Expression.static_member _ x k) = let a = then_single (mean_single c x).0 (λ v. returns_single _ _ _) in (watched_single c (then_single a get_value_single), a)
+    mean_single c (Expression.computed_member _ x k) = let a = then_single (mean_single c x).0 (λ v. then_single (mean_single c k).0 (λ v. returns_single _ _ _)) in (watched_single c (then_single a get_value_single), a)
+    mean_single c (Expression.call _ f xs) = (watched_single c (then_single (callee_single _ _ (mean_single c f).0 (mean_single c f).1) (λ g. then_single (arguments_single c xs) (λ vs. apply_single vs g))), tt)
+    mean_single c (Expression.template _ ps) = (watched_single c (then_single (pieces_single c [] ps) (λ v. returns_single _ _ _)), tt)
+    mean_single c (Expression.unary _ o x) = (watched_single c (then_single (mean_single c x).0 (λ v. settles_single _ _ _)), tt)
+    mean_single c (Expression.binary _ o x y) = (watched_single c (then_single (mean_single c x).0 (λ v. then_single (mean_single c y).0 (λ v. settles_single _ _ _))), tt)
+    mean_single c (Expression.opaque _ b k xs) = (watched_single c (λ s r t r2 t2 d d2. steps_single (children_single c b xs) d r2 t2 d2), tt)
 
     elements_single : (c : Mode) (xs : Elements) → Once (elements w c xs)
     elements_single c Elements.no_elements = returns_single _ _ _
-    elements_single c (Elements.hole xs) = then_single (elements_single c xs) (λ v. returns_single _ _ _)
-    elements_single c (Elements.spread x xs) = then_single (watched_single c (then_single (mean_single c x).0 (λ v. asks_single _ _ _))) (λ v. then_single (elements_single c xs) (λ v. returns_single _ _ _))
+    elements_single c (Elements.hole _ xs) = then_single (elements_single c xs) (λ v. returns_single _ _ _)
+    elements_single c (Elements.spread _ x xs) = then_single (watched_single c (then_single (mean_single c x).0 (λ v. asks_single _ _ _))) (λ v. then_single (elements_single c xs) (λ v. returns_single _ _ _))
     elements_single c (Elements.item x xs) = then_single (mean_single c x).0 (λ v. then_single (elements_single c xs) (λ v. returns_single _ _ _))
 
     arguments_single : (c : Mode) (xs : Arguments) → Once (arguments w c xs)
     arguments_single c Arguments.no_arguments = returns_single _ _ _
-    arguments_single c (Arguments.spread_argument x xs) = then_single (watched_single c (then_single (mean_single c x).0 (λ v. asks_single _ _ _))) (λ v. then_single (arguments_single c xs) (λ v. returns_single _ _ _))
+    arguments_single c (Arguments.spread_argument _ x xs) = then_single (watched_single c (then_single (mean_single c x).0 (λ v. asks_single _ _ _))) (λ v. then_single (arguments_single c xs) (λ v. returns_single _ _ _))
     arguments_single c (Arguments.argument x xs) = then_single (mean_single c x).0 (λ v. then_single (arguments_single c xs) (λ v. returns_single _ _ _))
 
     pieces_single : (c : Mode) (u : Units) (ps : Pieces) → Once (pieces w c u ps)

@@ -116,7 +116,7 @@ name_moves s r t (Watched.calmly (Asks.asks p) q) =
     let same : t ≡ s = still_stays q in
     omega arith
 
-not_calm : (v : PlainValue) → Calm plain (Expression.array (Elements.item x_name Elements.no_elements)) 0 v → ⊥
+not_calm : (v : PlainValue) → Calm plain (Expression.array 0 (Elements.item x_name Elements.no_elements)) 0 v → ⊥
 unfolding mean
 not_calm v (Watched.calmly (Then.goes (Then.goes p _) _) _) = name_moves _ _ _ p
 

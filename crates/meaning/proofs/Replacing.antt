@@ -63,19 +63,19 @@ module _ (w : World) (c : Mode) where
 
   is_plain : (x : Expression) → NoMember x → (mean w c x).refers ≡ Reference.plain
   unfolding mean
-  is_plain (Expression.string _) p = refl
-  is_plain (Expression.number _) p = refl
-  is_plain (Expression.boolean _) p = refl
-  is_plain Expression.null p = refl
-  is_plain (Expression.name _) p = refl
-  is_plain (Expression.array _) p = refl
-  is_plain (Expression.static_member _ _) p = absurd p
-  is_plain (Expression.computed_member _ _) p = absurd p
-  is_plain (Expression.call _ _) p = refl
-  is_plain (Expression.template _) p = refl
-  is_plain (Expression.unary _ _) p = refl
-  is_plain (Expression.binary _ _ _) p = refl
-  is_plain (Expression.opaque _ _ _) p = refl
+  is_plain (Expression.string _ _) p = refl
+  is_plain (Expression.number _ _) p = refl
+  is_plain (Expression.boolean _ _) p = refl
+  is_plain (Expression.null _) p = refl
+  is_plain (Expression.name _ _) p = refl
+  is_plain (Expression.array _ _) p = refl
+  is_plain (Expression.static_member _ _ _) p = absurd p
+  is_plain (Expression.computed_member _ _ _) p = absurd p
+  is_plain (Expression.call _ _ _) p = refl
+  is_plain (Expression.template _ _) p = refl
+  is_plain (Expression.unary _ _ _) p = refl
+  is_plain (Expression.binary _ _ _ _) p = refl
+  is_plain (Expression.opaque _ _ _ _) p = refl
 
   plain_plain : (x y : Expression) → NoMember x → NoMember y → RefinesReference (mean w c x).refers (mean w c y).refers
   plain_plain x y p q = rw (is_plain x p, is_plain y q) tt
@@ -152,19 +152,19 @@ watched_still (Watched.calmly p q) = q
 -- each run inside a calm one is still
 pub calm_still : (w : World) (x : Expression) {s : w.State} {r : Result (ValueIn w)} {t : w.State} → (mean w Mode.calm x).run s r t → Still w.State (ValueIn w) s r t
 unfolding mean
-calm_still w (Expression.string _) d = watched_still d
-calm_still w (Expression.number _) d = watched_still d
-calm_still w (Expression.boolean _) d = watched_still d
-calm_still w Expression.null d = watched_still d
-calm_still w (Expression.name _) d = watched_still d
-calm_still w (Expression.array _) d = watched_still d
-calm_still w (Expression.static_member _ _) d = watched_still d
-calm_still w (Expression.computed_member _ _) d = watched_still d
-calm_still w (Expression.call _ _) d = watched_still d
-calm_still w (Expression.template _) d = watched_still d
-calm_still w (Expression.unary _ _) d = watched_still d
-calm_still w (Expression.binary _ _ _) d = watched_still d
-calm_still w (Expression.opaque _ _ _) d = watched_still d
+calm_still w (Expression.string _ _) d = watched_still d
+calm_still w (Expression.number _ _) d = watched_still d
+calm_still w (Expression.boolean _ _) d = watched_still d
+calm_still w (Expression.null _) d = watched_still d
+calm_still w (Expression.name _ _) d = watched_still d
+calm_still w (Expression.array _ _) d = watched_still d
+calm_still w (Expression.static_member _ _ _) d = watched_still d
+calm_still w (Expression.computed_member _ _ _) d = watched_still d
+calm_still w (Expression.call _ _ _) d = watched_still d
+calm_still w (Expression.template _ _) d = watched_still d
+calm_still w (Expression.unary _ _ _) d = watched_still d
+calm_still w (Expression.binary _ _ _ _) d = watched_still d
+calm_still w (Expression.opaque _ _ _ _) d = watched_still d
 
 calm_all : {S A : Type 0} (m m2 : Act S A) → ((s : S) (v : A) → m s (Result.gives v) s → m2 s (Result.gives v) s) → {s : S} {r : Result A} {t : S} → Still S A s r t → m s r t → m2 s r t
 calm_all m m2 h Still.still d = h _ _ d

@@ -54,81 +54,81 @@ one_bits = 0x3FF0000000000000
 -- that were read.
 pub record EachKindRuns : Type 0 where
   -- "ab"
-  pub of_string : Gives (Expression.string (codes "ab")) 0 (text_value plain (codes "ab")) 0
+  pub of_string : Gives (Expression.string 0 (codes "ab")) 0 (text_value plain (codes "ab")) 0
   -- 3
-  pub of_number : Gives (Expression.number three) 0 (number_value plain (Number.bits three)) 0
+  pub of_number : Gives (Expression.number 0 three) 0 (number_value plain (Number.bits three)) 0
   -- true
-  pub of_boolean : Gives (Expression.boolean true) 0 (Value.primitive (Primitive.boolean true)) 0
+  pub of_boolean : Gives (Expression.boolean 0 true) 0 (Value.primitive (Primitive.boolean true)) 0
   -- null
-  pub of_null : Gives Expression.null 0 (Value.primitive Primitive.null) 0
+  pub of_null : Gives (Expression.null 0) 0 (Value.primitive Primitive.null) 0
   -- Math
-  pub of_name : Gives (Expression.name (codes "Math")) 0 (Value.object Thing.global) 1
+  pub of_name : Gives (Expression.name 0 (codes "Math")) 0 (Value.object Thing.global) 1
   -- ["a", , ...["b"]]
   pub of_array : Gives
-      (Expression.array (Elements.item (Expression.string (codes "a"))
-      (Elements.hole (Elements.spread (Expression.array (Elements.item (Expression.string (codes "b")) Elements.no_elements)) Elements.no_elements))))
+      (Expression.array 0 (Elements.item (Expression.string 0 (codes "a"))
+      (Elements.hole 0 (Elements.spread 0 (Expression.array 0 (Elements.item (Expression.string 0 (codes "b")) Elements.no_elements)) Elements.no_elements))))
       0 (Value.array (Slots.value (text_value plain (codes "a")) (Slots.hole (Slots.value (text_value plain (codes "b")) Slots.no_slots)))) 0
   -- Math.pow
-  pub of_static_member : Gives (Expression.static_member (Expression.name (codes "Math")) (codes "pow")) 0 (Value.object Thing.pow) 1
+  pub of_static_member : Gives (Expression.static_member 0 (Expression.name 0 (codes "Math")) (codes "pow")) 0 (Value.object Thing.pow) 1
   -- "ab"[1]
-  pub of_computed_member : Gives (Expression.computed_member (Expression.string (codes "ab")) (Expression.number one_bits)) 0 (text_value plain (codes "b")) 0
+  pub of_computed_member : Gives (Expression.computed_member 0 (Expression.string 0 (codes "ab")) (Expression.number 0 one_bits)) 0 (text_value plain (codes "b")) 0
   -- "a".concat("b", ...["c"])
   pub of_call : Gives
-      (Expression.call (Expression.static_member (Expression.string (codes "a")) (codes "concat"))
-      (Arguments.argument (Expression.string (codes "b"))
-      (Arguments.spread_argument (Expression.array (Elements.item (Expression.string (codes "c")) Elements.no_elements)) Arguments.no_arguments)))
+      (Expression.call 0 (Expression.static_member 0 (Expression.string 0 (codes "a")) (codes "concat"))
+      (Arguments.argument (Expression.string 0 (codes "b"))
+      (Arguments.spread_argument 0 (Expression.array 0 (Elements.item (Expression.string 0 (codes "c")) Elements.no_elements)) Arguments.no_arguments)))
       0 (text_value plain (codes "abc")) 0
   -- `a${null}b`
   pub of_template : Gives
-      (Expression.template (Pieces.piece (Quasi.quasi (codes "a") (codes "a")) Expression.null (Pieces.last (Quasi.quasi (codes "b") (codes "b")))))
+      (Expression.template 0 (Pieces.piece (Quasi.quasi 0 (codes "a") (codes "a")) (Expression.null 0) (Pieces.last (Quasi.quasi 0 (codes "b") (codes "b")))))
       0 (text_value plain (codes "anullb")) 0
   -- -3
-  pub of_unary : Gives (Expression.unary Minus (Expression.number three)) 0 (number_value plain (Number.bits minus_three)) 0
+  pub of_unary : Gives (Expression.unary 0 Minus (Expression.number 0 three)) 0 (number_value plain (Number.bits minus_three)) 0
   -- 3 - null
-  pub of_binary : Gives (Expression.binary Subtraction (Expression.number three) Expression.null) 0 (number_value plain (Number.bits three)) 0
+  pub of_binary : Gives (Expression.binary 0 Subtraction (Expression.number 0 three) (Expression.null 0)) 0 (number_value plain (Number.bits three)) 0
   -- an opaque expression that takes "ab"[1] as a reference: it is not read, and in this world its key is the value
   pub of_opaque : Gives
-      (Expression.opaque FirstChild.Reference 0 (Children.child (Expression.computed_member (Expression.string (codes "ab")) (Expression.number one_bits)) Children.no_children))
+      (Expression.opaque 0 FirstChild.Reference 0 (Children.child (Expression.computed_member 0 (Expression.string 0 (codes "ab")) (Expression.number 0 one_bits)) Children.no_children))
       0 (number_value plain (Number.bits one_bits)) 0
   -- [null.a], which throws
-  pub of_throw : Runs plain (Expression.array (Elements.item (Expression.static_member Expression.null (codes "a")) Elements.no_elements)) 0 Result.throws 0
+  pub of_throw : Runs plain (Expression.array 0 (Elements.item (Expression.static_member 0 (Expression.null 0) (codes "a")) Elements.no_elements)) 0 Result.throws 0
   -- an opaque expression that sees a throw
   pub of_seen_throw : Gives
-      (Expression.opaque FirstChild.Value 0 (Children.child (Expression.static_member Expression.null (codes "a")) Children.no_children))
+      (Expression.opaque 0 FirstChild.Value 0 (Children.child (Expression.static_member 0 (Expression.null 0) (codes "a")) Children.no_children))
       0 (Value.primitive Primitive.undefined) 0
 
 -- The names x and y.
 abbrev pub x_name : Expression
-x_name = Expression.name (codes "x")
+x_name = Expression.name 0 (codes "x")
 
 abbrev pub y_name : Expression
-y_name = Expression.name (codes "y")
+y_name = Expression.name 0 (codes "y")
 
 -- Runs in the plain world that show an order: the state that a throw leaves, and the text of an object, tell how many names
 -- had been read by then.
 pub record OrderShows : Type 0 where
   -- `${x}${y}`: the text of x is made before y is read, so the units are 1 and 2
   pub template_makes_text_at_once : Gives
-      (Expression.template (Pieces.piece (Quasi.quasi [] []) x_name (Pieces.piece (Quasi.quasi [] []) y_name (Pieces.last (Quasi.quasi [] [])))))
+      (Expression.template 0 (Pieces.piece (Quasi.quasi 0 [] []) x_name (Pieces.piece (Quasi.quasi 0 [] []) y_name (Pieces.last (Quasi.quasi 0 [] [])))))
       0 (text_value plain (1 ∷ 2 ∷ [])) 2
   -- x - y: both are read before x is made a number, which is 2 here, and this world's difference is its left side
-  pub operands_run_first : Gives (Expression.binary Subtraction x_name y_name) 0 (number_value plain (Number.bits 2)) 2
+  pub operands_run_first : Gives (Expression.binary 0 Subtraction x_name y_name) 0 (number_value plain (Number.bits 2)) 2
   -- null.a(x): the callee's property is read before the arguments run, and that throws
   pub callee_before_arguments : Runs plain
-      (Expression.call (Expression.static_member Expression.null (codes "a")) (Arguments.argument x_name Arguments.no_arguments)) 0 Result.throws 0
+      (Expression.call 0 (Expression.static_member 0 (Expression.null 0) (codes "a")) (Arguments.argument x_name Arguments.no_arguments)) 0 Result.throws 0
   -- null(x): what is no function throws once the arguments have run
-  pub arguments_before_call : Runs plain (Expression.call Expression.null (Arguments.argument x_name Arguments.no_arguments)) 0 Result.throws 1
+  pub arguments_before_call : Runs plain (Expression.call 0 (Expression.null 0) (Arguments.argument x_name Arguments.no_arguments)) 0 Result.throws 1
   -- null[x]: object and key run before the property is read, and that throws
-  pub key_before_property : Runs plain (Expression.computed_member Expression.null x_name) 0 Result.throws 1
+  pub key_before_property : Runs plain (Expression.computed_member 0 (Expression.null 0) x_name) 0 Result.throws 1
   -- [...null, x]: a spread is iterated before the next element runs, and null throws
   pub spread_before_next : Runs plain
-      (Expression.array (Elements.spread Expression.null (Elements.item x_name Elements.no_elements))) 0 Result.throws 0
+      (Expression.array 0 (Elements.spread 0 (Expression.null 0) (Elements.item x_name Elements.no_elements))) 0 Result.throws 0
 
 -- ["a"] is calm in the plain world, and [x] is not, since reading x changes the state.
 pub record CalmShows : Type 0 where
-  pub a_string_is_calm : Calm plain (Expression.array (Elements.item (Expression.string (codes "a")) Elements.no_elements)) 0
+  pub a_string_is_calm : Calm plain (Expression.array 0 (Elements.item (Expression.string 0 (codes "a")) Elements.no_elements)) 0
       (Value.array (Slots.value (text_value plain (codes "a")) Slots.no_slots))
-  pub a_name_is_not : (v : PlainValue) → Calm plain (Expression.array (Elements.item x_name Elements.no_elements)) 0 v → ⊥
+  pub a_name_is_not : (v : PlainValue) → Calm plain (Expression.array 0 (Elements.item x_name Elements.no_elements)) 0 v → ⊥
 
 -- There is a world that meets the premises, in which every kind of expression has a run, and order and calm show.
 abbrev pub ThePremisesCanBeMet : Type 0

@@ -1,4 +1,6 @@
 pub mod Expression
+pub mod Trees
+pub mod Parts
 pub mod Number
 pub mod Value
 pub mod World

@@ -21,30 +21,30 @@ mutual
     here : Swap old new FirstChild.Value old new
     here_referred : NoMember old → NoMember new → Swap old new FirstChild.Reference old new
     here_itself : old ≡ new → Swap old new FirstChild.Reference old new
-    in_array : {b : FirstChild} {xs ys : Elements} → SwapElements old new xs ys → Swap old new b (Expression.array xs) (Expression.array ys)
-    in_static : {b : FirstChild} {x y : Expression} {p : Units} → Swap old new FirstChild.Value x y → Swap old new b (Expression.static_member x p) (Expression.static_member y p)
-    in_object : {b : FirstChild} {x y k : Expression} → Swap old new FirstChild.Value x y → Swap old new b (Expression.computed_member x k) (Expression.computed_member y k)
-    in_key : {b : FirstChild} {x y o : Expression} → Swap old new FirstChild.Value x y → Swap old new b (Expression.computed_member o x) (Expression.computed_member o y)
-    in_callee : {b : FirstChild} {x y : Expression} {xs : Arguments} → Swap old new FirstChild.Reference x y → Swap old new b (Expression.call x xs) (Expression.call y xs)
-    in_arguments : {b : FirstChild} {f : Expression} {xs ys : Arguments} → SwapArguments old new xs ys → Swap old new b (Expression.call f xs) (Expression.call f ys)
-    in_template : {b : FirstChild} {xs ys : Pieces} → SwapPieces old new xs ys → Swap old new b (Expression.template xs) (Expression.template ys)
-    in_unary : {b : FirstChild} {o : UnaryOperator} {x y : Expression} → Swap old new FirstChild.Value x y → Swap old new b (Expression.unary o x) (Expression.unary o y)
-    in_left : {b : FirstChild} {o : BinaryOperator} {x y z : Expression} → Swap old new FirstChild.Value x y → Swap old new b (Expression.binary o x z) (Expression.binary o y z)
-    in_right : {b : FirstChild} {o : BinaryOperator} {x y z : Expression} → Swap old new FirstChild.Value x y → Swap old new b (Expression.binary o z x) (Expression.binary o z y)
-    in_opaque : {b f : FirstChild} {m : ℕ} {xs ys : Children} → SwapChildren old new f xs ys → Swap old new b (Expression.opaque f m xs) (Expression.opaque f m ys)
+    in_array : {l : ℕ} {b : FirstChild} {xs ys : Elements} → SwapElements old new xs ys → Swap old new b (Expression.array l xs) (Expression.array l ys)
+    in_static : {l : ℕ} {b : FirstChild} {x y : Expression} {p : Units} → Swap old new FirstChild.Value x y → Swap old new b (Expression.static_member l x p) (Expression.static_member l y p)
+    in_object : {l : ℕ} {b : FirstChild} {x y k : Expression} → Swap old new FirstChild.Value x y → Swap old new b (Expression.computed_member l x k) (Expression.computed_member l y k)
+    in_key : {l : ℕ} {b : FirstChild} {x y o : Expression} → Swap old new FirstChild.Value x y → Swap old new b (Expression.computed_member l o x) (Expression.computed_member l o y)
+    in_callee : {l : ℕ} {b : FirstChild} {x y : Expression} {xs : Arguments} → Swap old new FirstChild.Reference x y → Swap old new b (Expression.call l x xs) (Expression.call l y xs)
+    in_arguments : {l : ℕ} {b : FirstChild} {f : Expression} {xs ys : Arguments} → SwapArguments old new xs ys → Swap old new b (Expression.call l f xs) (Expression.call l f ys)
+    in_template : {l : ℕ} {b : FirstChild} {xs ys : Pieces} → SwapPieces old new xs ys → Swap old new b (Expression.template l xs) (Expression.template l ys)
+    in_unary : {l : ℕ} {b : FirstChild} {o : UnaryOperator} {x y : Expression} → Swap old new FirstChild.Value x y → Swap old new b (Expression.unary l o x) (Expression.unary l o y)
+    in_left : {l : ℕ} {b : FirstChild} {o : BinaryOperator} {x y z : Expression} → Swap old new FirstChild.Value x y → Swap old new b (Expression.binary l o x z) (Expression.binary l o y z)
+    in_right : {l : ℕ} {b : FirstChild} {o : BinaryOperator} {x y z : Expression} → Swap old new FirstChild.Value x y → Swap old new b (Expression.binary l o z x) (Expression.binary l o z y)
+    in_opaque : {l : ℕ} {b f : FirstChild} {m : ℕ} {xs ys : Children} → SwapChildren old new f xs ys → Swap old new b (Expression.opaque l f m xs) (Expression.opaque l f m ys)
 
   -- The same among elements, arguments, pieces and children. (No section.)
   pub data SwapElements (old new : Expression) : Elements → Elements → Type 0 where
-    past_hole : {xs ys : Elements} → SwapElements old new xs ys → SwapElements old new (Elements.hole xs) (Elements.hole ys)
-    past_spread : {z : Expression} {xs ys : Elements} → SwapElements old new xs ys → SwapElements old new (Elements.spread z xs) (Elements.spread z ys)
+    past_hole : {l : ℕ} {xs ys : Elements} → SwapElements old new xs ys → SwapElements old new (Elements.hole l xs) (Elements.hole l ys)
+    past_spread : {l : ℕ} {z : Expression} {xs ys : Elements} → SwapElements old new xs ys → SwapElements old new (Elements.spread l z xs) (Elements.spread l z ys)
     past_item : {z : Expression} {xs ys : Elements} → SwapElements old new xs ys → SwapElements old new (Elements.item z xs) (Elements.item z ys)
-    in_spread : {x y : Expression} {xs : Elements} → Swap old new FirstChild.Value x y → SwapElements old new (Elements.spread x xs) (Elements.spread y xs)
+    in_spread : {l : ℕ} {x y : Expression} {xs : Elements} → Swap old new FirstChild.Value x y → SwapElements old new (Elements.spread l x xs) (Elements.spread l y xs)
     in_item : {x y : Expression} {xs : Elements} → Swap old new FirstChild.Value x y → SwapElements old new (Elements.item x xs) (Elements.item y xs)
 
   pub data SwapArguments (old new : Expression) : Arguments → Arguments → Type 0 where
-    past_spread_argument : {z : Expression} {xs ys : Arguments} → SwapArguments old new xs ys → SwapArguments old new (Arguments.spread_argument z xs) (Arguments.spread_argument z ys)
+    past_spread_argument : {l : ℕ} {z : Expression} {xs ys : Arguments} → SwapArguments old new xs ys → SwapArguments old new (Arguments.spread_argument l z xs) (Arguments.spread_argument l z ys)
     past_argument : {z : Expression} {xs ys : Arguments} → SwapArguments old new xs ys → SwapArguments old new (Arguments.argument z xs) (Arguments.argument z ys)
-    in_spread_argument : {x y : Expression} {xs : Arguments} → Swap old new FirstChild.Value x y → SwapArguments old new (Arguments.spread_argument x xs) (Arguments.spread_argument y xs)
+    in_spread_argument : {l : ℕ} {x y : Expression} {xs : Arguments} → Swap old new FirstChild.Value x y → SwapArguments old new (Arguments.spread_argument l x xs) (Arguments.spread_argument l y xs)
     in_argument : {x y : Expression} {xs : Arguments} → Swap old new FirstChild.Value x y → SwapArguments old new (Arguments.argument x xs) (Arguments.argument y xs)
 
   pub data SwapPieces (old new : Expression) : Pieces → Pieces → Type 0 where

@@ -100,32 +100,32 @@ module _ (w : World) where
     -- CallExpression ("EvaluateCall"), TemplateLiteral, UnaryExpression, and of the binary operators
     -- ("EvaluateStringOrNumericBinaryExpression").
     pub mean : Mode → Expression → Means
-    mean c (Expression.string u) = valued c (returns (text_value w u))
-    mean c (Expression.number n) = valued c (returns (number_value w (Number.bits n)))
-    mean c (Expression.boolean b) = valued c (returns (Value.primitive (Primitive.boolean b)))
-    mean c Expression.null = valued c (returns (Value.primitive Primitive.null))
-    mean c (Expression.name u) = valued c (asks (w.read u))
-    mean c (Expression.array xs) = valued c (then (elements c xs) (λ vs. returns (Value.array vs)))
-    mean c (Expression.static_member x p) = membered c (then (mean c x).run (λ o. returns (Pair.pair o (text_value w p))))
-    mean c (Expression.computed_member x y) = membered c (then (mean c x).run (λ o. then (mean c y).run (λ k. returns (Pair.pair o k))))
-    mean c (Expression.call f xs) = valued c (then (callee (mean c f).run (mean c f).refers) (λ g. then (arguments c xs) (λ vs. apply_to vs g)))
-    mean c (Expression.template ps) = valued c (then (pieces c [] ps) (λ u. returns (text_value w u)))
-    mean c (Expression.unary o x) = valued c (then (mean c x).run (λ v. settles (unary_result w o v)))
-    mean c (Expression.binary o x y) = valued c (then (mean c x).run (λ a. then (mean c y).run (λ b. settles (binary_result w o a b))))
-    mean c (Expression.opaque f m xs) = valued c (Steps w.State (ValueIn w) (w.next m) (children c f xs) [])
+    mean c (Expression.string l u) = valued c (returns (text_value w u))
+    mean c (Expression.number l n) = valued c (returns (number_value w (Number.bits n)))
+    mean c (Expression.boolean l b) = valued c (returns (Value.primitive (Primitive.boolean b)))
+    mean c (Expression.null l) = valued c (returns (Value.primitive Primitive.null))
+    mean c (Expression.name l u) = valued c (asks (w.read u))
+    mean c (Expression.array l xs) = valued c (then (elements c xs) (λ vs. returns (Value.array vs)))
+    mean c (Expression.static_member l x p) = membered c (then (mean c x).run (λ o. returns (Pair.pair o (text_value w p))))
+    mean c (Expression.computed_member l x y) = membered c (then (mean c x).run (λ o. then (mean c y).run (λ k. returns (Pair.pair o k))))
+    mean c (Expression.call l f xs) = valued c (then (callee (mean c f).run (mean c f).refers) (λ g. then (arguments c xs) (λ vs. apply_to vs g)))
+    mean c (Expression.template l ps) = valued c (then (pieces c [] ps) (λ u. returns (text_value w u)))
+    mean c (Expression.unary l o x) = valued c (then (mean c x).run (λ v. settles (unary_result w o v)))
+    mean c (Expression.binary l o x y) = valued c (then (mean c x).run (λ a. then (mean c y).run (λ b. settles (binary_result w o a b))))
+    mean c (Expression.opaque l f m xs) = valued c (Steps w.State (ValueIn w) (w.next m) (children c f xs) [])
 
     -- The slots of an array's elements, in order. ECMA-262, "Runtime Semantics: ArrayAccumulation".
     pub elements : Mode → Elements → Does (SlotsIn w)
     elements c Elements.no_elements = returns Slots.no_slots
     elements c (Elements.item x xs) = then (mean c x).run (λ v. then (elements c xs) (λ vs. returns (Slots.value v vs)))
-    elements c (Elements.hole xs) = then (elements c xs) (λ vs. returns (Slots.hole vs))
-    elements c (Elements.spread x xs) = then (watched c (then (mean c x).run (λ v. asks (w.iterate v)))) (λ us. then (elements c xs) (λ vs. returns (join_slots (slots_of us) vs)))
+    elements c (Elements.hole l xs) = then (elements c xs) (λ vs. returns (Slots.hole vs))
+    elements c (Elements.spread l x xs) = then (watched c (then (mean c x).run (λ v. asks (w.iterate v)))) (λ us. then (elements c xs) (λ vs. returns (join_slots (slots_of us) vs)))
 
     -- The values of a call's arguments, in order. ECMA-262, "Runtime Semantics: ArgumentListEvaluation".
     pub arguments : Mode → Arguments → Does (List (ValueIn w))
     arguments c Arguments.no_arguments = returns []
     arguments c (Arguments.argument x xs) = then (mean c x).run (λ v. then (arguments c xs) (λ vs. returns (v ∷ vs)))
-    arguments c (Arguments.spread_argument x xs) = then (watched c (then (mean c x).run (λ v. asks (w.iterate v)))) (λ us. then (arguments c xs) (λ vs. returns (us ++ vs)))
+    arguments c (Arguments.spread_argument l x xs) = then (watched c (then (mean c x).run (λ v. asks (w.iterate v)))) (λ us. then (arguments c xs) (λ vs. returns (us ++ vs)))
 
     -- The text of a template's pieces, behind the text so far: each value is made a text before the next expression runs.
     -- ECMA-262, "Runtime Semantics: Evaluation" of SubstitutionTemplate and TemplateMiddleList.
