@@ -1,6 +1,7 @@
 pub mod Expression
 pub mod Trees
 pub mod Parts
+pub mod Payoffs
 pub mod Number
 pub mod Value
 pub mod World
@@ -10,5 +11,6 @@ pub mod Acts
 pub mod Runs
 pub mod Premises
 pub mod Replacing
+pub mod Numbering
 pub mod PlainWorld
 pub mod Laws

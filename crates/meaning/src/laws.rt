@@ -1,5 +1,7 @@
 // The laws of runs. Each function's contract states one, and its body does nothing.
 ghost use Rattle.meaning.specs.Laws.{ARunIsDetermined, ACalmRunIsARun, AlikeExpressionsReplaceEachOther, ThePremisesCanBeMet, WholeExamples};
+ghost use Rattle.meaning.specs.Numbering.{NoRunDependsOnNumbers};
+ghost use Rattle.meaning.specs.Payoffs.{APayoffIsOneExpression};
 
 use crate::Engine;
 
@@ -27,4 +29,14 @@ pub fn the_premises_can_be_met()
 // Which numbers are whole numbers from 0, on examples.
 pub fn whole_examples()
     ensures { WholeExamples }
+{}
+
+// With whatever numbers its nodes have, an expression has the same runs.
+pub fn no_run_depends_on_numbers<W: Engine>()
+    ensures { NoRunDependsOnNumbers W.Engine.world }
+{}
+
+// A payoff's tree is how one expression is stored, and how no other is.
+pub fn a_payoff_is_one_expression()
+    ensures { APayoffIsOneExpression }
 {}
