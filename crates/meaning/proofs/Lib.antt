@@ -1,3 +1,4 @@
+pub mod Agreeing
 pub mod Calming
 pub mod Determined
 pub mod Numbering

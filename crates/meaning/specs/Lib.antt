@@ -14,3 +14,5 @@ pub mod Replacing
 pub mod Numbering
 pub mod PlainWorld
 pub mod Laws
+pub mod Engine
+pub mod EngineLaws

@@ -1,5 +1,6 @@
 // The laws of runs. Each function's contract states one, and its body does nothing.
 ghost use Rattle.meaning.specs.Laws.{ARunIsDetermined, ACalmRunIsARun, AlikeExpressionsReplaceEachOther, ThePremisesCanBeMet, WholeExamples};
+ghost use Rattle.meaning.specs.EngineLaws.{TheEngineAgrees};
 ghost use Rattle.meaning.specs.Numbering.{NoRunDependsOnNumbers};
 ghost use Rattle.meaning.specs.Payoffs.{APayoffIsOneExpression};
 
@@ -39,4 +40,9 @@ pub fn no_run_depends_on_numbers<W: Engine>()
 // A payoff's tree is how one expression is stored, and how no other is.
 pub fn a_payoff_is_one_expression()
     ensures { APayoffIsOneExpression }
+{}
+
+// The definitions that compute give, in any world, what an engine gave.
+pub fn the_engine_agrees<W: Engine>()
+    ensures { TheEngineAgrees W.Engine.world }
 {}
