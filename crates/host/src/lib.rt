@@ -3,6 +3,16 @@
 
 #![tactic(auto)]
 
+mod host;
+mod row;
+mod silent;
+mod structural;
+mod table;
 mod value_type;
 
+pub use host::Host;
+pub use row::Row;
+pub use silent::Silent;
+pub use structural::Structural;
+pub use table::Table;
 pub use value_type::ValueType;
