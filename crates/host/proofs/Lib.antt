@@ -1,1 +1,7 @@
 pub mod Agreeing
+pub mod Bits
+pub mod Example
+pub mod Knowing
+pub mod Named
+pub mod Shaped
+pub mod Tabled

@@ -6,3 +6,5 @@ pub mod Silent
 pub mod Structural
 pub mod Row
 pub mod Table
+pub mod QuietWorld
+pub mod Laws

@@ -58,11 +58,13 @@ module _ (w : World) where
   HasType k (Part.spread l x) = Unit {0}
   HasType k (Part.quasi q) = Unit {0}
 
-  -- The node is a name that reads from every state as the language's own, and changes none. ECMA-262, "The Global Object".
+  -- A name reads from every state as the language's own, and changes none. ECMA-262, "The Global Object".
+  abbrev pub ReadsAsOwn : Units → Type 0
+  ReadsAsOwn u = (s : w.State) → w.read u s ≡ Ending.ends (Result.gives (w.own u)) s
+
+  -- The node is such a name. ECMA-262, "Identifier Reference".
   abbrev pub IsTheLanguagesOwn : Part → Type 0
-  IsTheLanguagesOwn p =
-      (l : ℕ) × (u : Units) × (p ≡ Part.expression (Expression.name l u))
-      × ((s : w.State) → w.read u s ≡ Ending.ends (Result.gives (w.own u)) s)
+  IsTheLanguagesOwn p = (l : ℕ) × (u : Units) × (p ≡ Part.expression (Expression.name l u)) × ReadsAsOwn u
 
   -- An answer is true: silence always is.
   abbrev pub TrueAnswer : Answers → Question → Type 0

@@ -4,6 +4,7 @@
 #![tactic(auto)]
 
 mod host;
+mod laws;
 mod row;
 mod silent;
 mod structural;
@@ -11,6 +12,10 @@ mod table;
 mod value_type;
 
 pub use host::Host;
+pub use laws::{
+    a_table_is_true_where_its_entries_are, the_hypotheses_can_be_met, the_silent_host_is_true,
+    the_structural_host_is_true,
+};
 pub use row::Row;
 pub use silent::Silent;
 pub use structural::Structural;

@@ -1,4 +1,4 @@
-ghost use Rattle.std.specs.Prelude.{◌≡◌, Option};
+ghost use Rattle.std.specs.Prelude.{◌≡◌};
 
 use super::value_type::ValueType;
 
@@ -28,6 +28,7 @@ impl Row {
     };
 
     // The row that the byte spells, if it spells one.
+    #[tactic(auto, using(crate::proofs::Bits::effects_bit, crate::proofs::Bits::global_bit, crate::proofs::Bits::number_bits))]
     pub fn from_byte(byte: u8) -> Option<Row>
         ensures { result ≡ row_of byte }
     {
