@@ -1,12 +1,16 @@
 -- Worlds in which the hypotheses of the laws are met.
-use Rattle.std.proofs.Common.{◌≡◌, ℕ, zero, suc, true, [], refl, sym, subst, arith}
+use Rattle.std.proofs.Common.{◌≡◌, ℕ, zero, suc, true, [], ◌∷◌, refl, sym, ap, ◌∙◌, subst, arith}
 use lib.Utf8.{encode}
-use Rattle.meaning.specs.Value.{Value}
-use Rattle.meaning.specs.World.{ValueIn}
+use Rattle.meaning.specs.Expression.{Units}
+use Rattle.meaning.specs.Value.{Value, Slots}
+use Rattle.meaning.specs.World.{ValueIn, Result, Ending, ◌>>=◌}
+use Rattle.meaning.specs.Coercion.{to_primitive, primitive_text, to_text, primitive_numeric, to_numeric, only_number, to_number}
+use Rattle.meaning.specs.Methods.{concat_name, pow_name, of_name, coercible, texts_joined, text_concat_result, slots_added, spread_slots, slots_joined, array_concat_result, pow_result, array_of_result, unit_at, slot_at}
+use Rattle.meaning.specs.Premises.{Premises}
 use Rattle.meaning.specs.Acts.{Returns, Then, Asks, Watched, Still}
 use Rattle.meaning.specs.Runs.{Calm, mean}
 use Rattle.meaning.specs.Parts.{Part}
-use Rattle.meaning.specs.PlainWorld.{Thing, plain}
+use Rattle.meaning.specs.PlainWorld.{Thing, PlainSlots, methods_world, plain, text_property, array_property, whole_key}
 use Rattle.host.specs.declared.value_type.ValueType.TheVariants.{Object, String}
 use Rattle.host.specs.Truth.{OfType, HasType, ReadsAsOwn}
 use Rattle.host.specs.Structural.{own_names, is_own_name, structural_answers}
@@ -26,6 +30,36 @@ counted h = let at_zero = h 0 in let z : ◌≡◌ {A = ℕ} 1 0 = cc in omega a
 
 none_bound : Complete plain [] → ⊥
 none_bound h = counted (h 0 [] (omega arith) refl)
+
+same_units_at : (u : Units) (k : ℕ) → unit_at methods_world u k ≡ unit_at quiet u k
+unfolding unit_at
+same_units_at [] k = refl
+same_units_at (x ∷ u) zero = refl
+same_units_at (x ∷ u) (suc k) = same_units_at u k
+
+same_slots_at : (xs : PlainSlots) (k : ℕ) → slot_at methods_world xs k ≡ slot_at quiet xs k
+unfolding slot_at
+same_slots_at Slots.no_slots k = refl
+same_slots_at (Slots.hole xs) zero = refl
+same_slots_at (Slots.value v xs) zero = refl
+same_slots_at (Slots.hole xs) (suc k) = same_slots_at xs k
+same_slots_at (Slots.value v xs) (suc k) = same_slots_at xs k
+
+-- The premises say nothing of reading names.
+quiet_meets : Premises quiet
+unfolding concat_name pow_name of_name to_primitive primitive_text to_text coercible texts_joined text_concat_result ◌>>=◌ slots_added spread_slots slots_joined array_concat_result primitive_numeric to_numeric only_number to_number pow_result array_of_result
+quiet_meets = record {
+  finds_text_concat = λ u s. refl;
+  applies_text_concat = λ v vs s. refl;
+  finds_array_concat = λ xs s. refl;
+  applies_array_concat = λ xs vs s. refl;
+  finds_pow = λ s. refl;
+  applies_pow = λ v a b s. refl;
+  finds_array_of = λ s. refl;
+  applies_array_of = λ vs s. refl;
+  reads_text_at_index = λ u x k e lt s. ap (λ z. Ending.ends (Result.gives z) s) (ap (λ z. text_property u (whole_key z)) e ∙ same_units_at u k);
+  reads_array_at_index = λ xs x k e lt s. ap (λ z. Ending.ends (Result.gives z) s) (ap (λ z. array_property xs (whole_key z)) e ∙ same_slots_at xs k);
+}
 
 quiet_reads : Complete quiet []
 quiet_reads k d lt e s = refl
@@ -62,6 +96,7 @@ pub met : TheHypothesesCanBeMet
 met = record {
   complete_in_plain = all_bound;
   not_without_names = none_bound;
+  premises_in_quiet = quiet_meets;
   complete_in_quiet = quiet_reads;
   math_is_global = global;
   row_of_name = refl;

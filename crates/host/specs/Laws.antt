@@ -5,6 +5,7 @@ use Rattle.text.specs.Stored.{stored}
 use Rattle.tree.specs.Tree.{label}
 use Rattle.meaning.specs.Expression.{Expression, Elements}
 use Rattle.meaning.specs.World.{World}
+use Rattle.meaning.specs.Premises.{Premises}
 use Rattle.meaning.specs.Parts.{Part, part_tree}
 use Rattle.meaning.specs.PlainWorld.{plain}
 use Rattle.host.specs.declared.value_type.ValueType.TheVariants.{Object, String}
@@ -70,7 +71,9 @@ pub record TheHypothesesCanBeMet : Type 0 where
   -- In the plain world each read changes the state, so that only a list with all three names is complete.
   pub complete_in_plain : Complete plain own_names
   pub not_without_names : Complete plain [] → ⊥
-  -- In the quiet world even the empty list is, and the structural host calls Math a global name.
+  -- The quiet world meets all premises. There even the empty list is complete, and the structural host calls Math a global
+  -- name.
+  pub premises_in_quiet : Premises quiet
   pub complete_in_quiet : Complete quiet []
   pub math_is_global : (structural_answers []).global (Part.expression math_name) ≡ true
   -- The rows are no silent ones, and true in the quiet world.
