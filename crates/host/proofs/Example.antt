@@ -1,6 +1,8 @@
 -- Worlds in which the hypotheses of the laws are met.
-use Rattle.std.proofs.Common.{◌≡◌, ℕ, zero, suc, true, [], ◌∷◌, refl, sym, ap, ◌∙◌, subst, arith}
+use Rattle.std.proofs.Common.{◌≡◌, ℕ, zero, suc, Bool, true, false, List, [], ◌∷◌, refl, sym, ap, ◌∙◌, subst, arith}
+use Rattle.std.specs.Prelude.{All, ◌↔◌, slice_index_or}
 use lib.Utf8.{encode}
+use Rattle.text.specs.Stored.{stored}
 use Rattle.meaning.specs.Expression.{Units}
 use Rattle.meaning.specs.Value.{Value, Slots}
 use Rattle.meaning.specs.World.{ValueIn, Result, Ending, ◌>>=◌}
@@ -13,7 +15,7 @@ use Rattle.meaning.specs.Parts.{Part}
 use Rattle.meaning.specs.PlainWorld.{Thing, PlainSlots, methods_world, plain, text_property, array_property, whole_key}
 use Rattle.host.specs.declared.value_type.ValueType.TheVariants.{Object, String}
 use Rattle.host.specs.Truth.{OfType, HasType, ReadsAsOwn}
-use Rattle.host.specs.Structural.{own_names, is_own_name, structural_answers}
+use Rattle.host.specs.Structural.{own_names, is_among, is_own_name, structural_answers}
 use Rattle.host.specs.QuietWorld.{quiet}
 use Rattle.host.specs.Laws.{Complete, math_name, a_text, math_and_text, TheHypothesesCanBeMet}
 use Rattle.host.proofs.Knowing.{false_true}
@@ -25,11 +27,16 @@ all_bound (suc zero) d lt e = false_true (sym e)
 all_bound (suc (suc zero)) d lt e = false_true (sym e)
 all_bound (suc (suc (suc k))) d lt e = absurd (omega arith)
 
-counted : ReadsAsOwn plain [] → ⊥
-counted h = let at_zero = h 0 in let z : ◌≡◌ {A = ℕ} 1 0 = cc in omega arith
+-- In the plain world no name reads as the language's own, since each read is counted.
+counted : (u : Units) → ReadsAsOwn plain u → ⊥
+counted u h = let at_zero = h 0 in let z : ◌≡◌ {A = ℕ} 1 0 = cc in omega arith
 
-none_bound : Complete plain [] → ⊥
-none_bound h = counted (h 0 [] (omega arith) refl)
+has_to_be : (u : Units) (b : Bool) → (b ≡ false → ReadsAsOwn plain u) → b ≡ true
+has_to_be u true h = refl
+has_to_be u false h = absurd (counted u (h refl))
+
+plain_complete : (bound : List (List ℕ)) → Complete plain bound ↔ All (λ u. is_among (stored u) bound ≡ true) own_names
+plain_complete bound = (λ h k d lt. has_to_be (slice_index_or own_names k d) _ (h k d lt), λ h k d lt e. false_true (sym e ∙ h k d lt))
 
 same_units_at : (u : Units) (k : ℕ) → unit_at methods_world u k ≡ unit_at quiet u k
 unfolding unit_at
@@ -94,8 +101,8 @@ array_typed s v t (Watched.freely (Then.goes d Returns.returns)) = tt
 
 pub met : TheHypothesesCanBeMet
 met = record {
-  complete_in_plain = all_bound;
-  not_without_names = none_bound;
+  complete_in_plain = plain_complete;
+  all_names = all_bound;
   premises_in_quiet = quiet_meets;
   complete_in_quiet = quiet_reads;
   math_is_global = global;

@@ -1,5 +1,5 @@
 -- The laws of hosts. (Hosts are a notion of ours, and no section of ECMA-262 has them.)
-use Rattle.std.specs.Prelude.{◌≡◌, ℕ, ◌<◌, ◌≤◌, true, false, List, [], ◌∷◌, take, Some, All, codes, option_and_then}
+use Rattle.std.specs.Prelude.{◌≡◌, ℕ, ◌<◌, ◌≤◌, ◌↔◌, true, false, List, [], ◌∷◌, take, Some, All, codes, option_and_then}
 use Rattle.std.specs.List.{slice_get}
 use Rattle.text.specs.Stored.{stored}
 use Rattle.tree.specs.Tree.{label}
@@ -22,8 +22,8 @@ use Rattle.host.specs.QuietWorld.{quiet}
 abbrev pub TheSilentHostIsTrue : World → Type 0
 TheSilentHostIsTrue w = Truthful w silent_answers
 
--- The list of bound names is complete: each of the language's own names that the structural host knows, and that is not in
--- the list, reads from every state as the language's own, and changes none.
+-- The list of bound names is complete: each of the language's own names that the structural host knows, and that is
+-- not in the list, reads from every state as the language's own, and changes none.
 abbrev pub Complete : World → (bound : List (List ℕ)) → Type 0
 Complete w bound = All (λ u. is_among (stored u) bound ≡ false → ReadsAsOwn w u) own_names
 
@@ -45,7 +45,8 @@ HasEntry rows loaded n r = (n < loaded) × (option_and_then row_of (slice_get ro
 abbrev pub TrueOf : World → Answers → Part → Type 0
 TrueOf w a p = TrueAnswer w a (Question.effects p) × TrueAnswer w a (Question.value_type p) × TrueAnswer w a (Question.global p)
 
--- A table says only what is true of each part whose entry, if it has one, is true; and of each part past the loaded nodes.
+-- A table says only what is true of each part whose entry, if it has one, is true; and of each part past the loaded
+-- nodes.
 abbrev pub ATableIsTrueWhereItsEntriesAre : World → Type 0
 ATableIsTrueWhereItsEntriesAre w =
     (rows : List ℕ) (loaded : ℕ) (p : Part)
@@ -68,11 +69,11 @@ three_rows = 0x47 ∷ 0x05 ∷ 0x07 ∷ []
 
 -- The hypotheses can be met, and what is said then is more than nothing.
 pub record TheHypothesesCanBeMet : Type 0 where
-  -- In the plain world each read changes the state, so that only a list with all three names is complete.
-  pub complete_in_plain : Complete plain own_names
-  pub not_without_names : Complete plain [] → ⊥
-  -- The quiet world meets all premises. There even the empty list is complete, and the structural host calls Math a global
-  -- name.
+  -- In the plain world each read changes the state, so that the complete lists are those that have all three names.
+  pub complete_in_plain : (bound : List (List ℕ)) → Complete plain bound ↔ All (λ u. is_among (stored u) bound ≡ true) own_names
+  pub all_names : Complete plain own_names
+  -- The quiet world meets all premises. There even the empty list is complete, and the structural host calls Math a
+  -- global name.
   pub premises_in_quiet : Premises quiet
   pub complete_in_quiet : Complete quiet []
   pub math_is_global : (structural_answers []).global (Part.expression math_name) ≡ true

@@ -6,8 +6,9 @@ use Rattle.host.specs.declared.value_type.ValueType.TheVariants.{Undetermined}
 use Rattle.host.specs.declared.row.Row.{Row}
 use Rattle.host.specs.ValueType.{types}
 
--- The row that a byte spells: bit 7 says that the node has effects, bit 6 that it is a global name, and the bits below are
--- the number of its type. Where no type has that number, it spells none. (No section of ECMA-262: a format of ours.)
+-- The row that a byte spells: bit 7 says that the node has effects, bit 6 that it is a global name, and the bits
+-- below are the number of its type. Where no type has that number, it spells none. (No section of ECMA-262: a format
+-- of ours.)
 abbrev pub row_of : ℕ → Option Row
 row_of byte = option_map (λ k. record { effects = bit_at byte 7 == 1; global = bit_at byte 6 == 1; value_type = k }) (slice_get types (byte % 2 ^ 6))
 

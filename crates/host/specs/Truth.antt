@@ -38,20 +38,20 @@ module _ (w : World) where
   OfType k (Value.array xs) = TypeOfObjects k
   OfType k (Value.object o) = TypeOfObjects k
 
-  -- The run of a spread, with what it iterates, gives these values in the state that it began in, and so does each run inside.
-  -- ECMA-262, "Runtime Semantics: ArgumentListEvaluation" and "ArrayAccumulation".
+  -- The run of a spread, with what it iterates, gives these values in the state that it began in, and so does each
+  -- run inside. ECMA-262, "Runtime Semantics: ArgumentListEvaluation" and "ArrayAccumulation".
   abbrev pub SpreadCalm : Expression → w.State → List (ValueIn w) → Type 0
   SpreadCalm x s vs = watched w Mode.calm (then w (mean w Mode.calm x).run (λ v. asks w (w.iterate v))) s (Result.gives vs) s
 
-  -- A node's run from every state, and each run inside that run, ends without a throw in the state that it began in. A hole
-  -- and a quasi do not run.
+  -- A node's run from every state, and each run inside that run, ends without a throw in the state that it began in.
+  -- A hole and a quasi do not run. (No section: a notion of ours.)
   abbrev pub WithoutEffects : Part → Type 0
   WithoutEffects (Part.expression x) = (s : w.State) → (v : ValueIn w) × Calm w x s v
   WithoutEffects (Part.hole l) = Unit {0}
   WithoutEffects (Part.spread l x) = (s : w.State) → (vs : List (ValueIn w)) × SpreadCalm x s vs
   WithoutEffects (Part.quasi q) = Unit {0}
 
-  -- Every value that a node's run ends with is of the type.
+  -- Every value that a node's run ends with is of the type. (No section.)
   abbrev pub HasType : ValueType → Part → Type 0
   HasType k (Part.expression x) = (s : w.State) (v : ValueIn w) (t : w.State) → Runs w x s (Result.gives v) t → OfType k v
   HasType k (Part.hole l) = Unit {0}
@@ -66,12 +66,12 @@ module _ (w : World) where
   abbrev pub IsTheLanguagesOwn : Part → Type 0
   IsTheLanguagesOwn p = (l : ℕ) × (u : Units) × (p ≡ Part.expression (Expression.name l u)) × ReadsAsOwn u
 
-  -- An answer is true: silence always is.
+  -- An answer is true: silence always is. (No section.)
   abbrev pub TrueAnswer : Answers → Question → Type 0
   TrueAnswer a (Question.effects p) = a.effects p ≡ false → WithoutEffects p
   TrueAnswer a (Question.value_type p) = HasType (a.value_type p) p
   TrueAnswer a (Question.global p) = a.global p ≡ true → IsTheLanguagesOwn p
 
-  -- A host that says only what is true.
+  -- A host says only what is true. (No section.)
   abbrev pub Truthful : Answers → Type 0
   Truthful a = (q : Question) → TrueAnswer a q

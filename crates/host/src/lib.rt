@@ -1,5 +1,5 @@
-// What a host says of a payoff: which of its nodes have effects, of which type their values are, and which names are the
-// language's own.
+// What a host says of a payoff: which of its nodes have effects, of which type their values are, and which names are
+// the language's own.
 
 #![tactic(auto)]
 

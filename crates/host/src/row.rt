@@ -10,7 +10,7 @@ pub struct Row {
     pub value_type: ValueType,
 }
 
-// The bits of a row's byte. The others are the number of its type.
+// A row's byte has a bit for effects, one for a global name, and the number of its type in the others.
 const EFFECTS: u8 = 0x80;
 
 const GLOBAL: u8 = 0x40;
