@@ -15,7 +15,7 @@ module _ (w : World) where
   mutual
     unfolding mean
 
-    forget : (x : Expression) → Refines w Mode.free (mean w Mode.calm x).run (mean w Mode.free x).run
+    pub forget : (x : Expression) → Refines w Mode.free (mean w Mode.calm x).run (mean w Mode.free x).run
     forget (Expression.string _ _) = loosened (λ s r t d. d)
     forget (Expression.number _ _) = loosened (λ s r t d. d)
     forget (Expression.boolean _ _) = loosened (λ s r t d. d)
@@ -51,7 +51,7 @@ module _ (w : World) where
     forget_elements (Elements.spread _ x xs) = then_both (loosened (then_first (forget x))) (λ v. then_first (forget_elements xs))
     forget_elements (Elements.item x xs) = then_both (forget x) (λ v. then_first (forget_elements xs))
 
-    forget_arguments : (xs : Arguments) → Refines w Mode.free (arguments w Mode.calm xs) (arguments w Mode.free xs)
+    pub forget_arguments : (xs : Arguments) → Refines w Mode.free (arguments w Mode.calm xs) (arguments w Mode.free xs)
     forget_arguments Arguments.no_arguments = λ s r t d. d
     forget_arguments (Arguments.spread_argument _ x xs) = then_both (loosened (then_first (forget x))) (λ v. then_first (forget_arguments xs))
     forget_arguments (Arguments.argument x xs) = then_both (forget x) (λ v. then_first (forget_arguments xs))

@@ -7,47 +7,47 @@ use Rattle.meaning.specs.Acts.{Act, Sight, Returns, Then, Asks, Settles, Mode, W
 use Rattle.meaning.specs.Runs.{Pair, Reference, mean, elements, arguments, pieces, children, callee, get_value, get_method, apply_to, sight_first}
 use Rattle.meaning.specs.Laws.{ARunIsDetermined}
 
-data Same (S A : Type 0) : A → S → A → S → Type 0 where
+pub data Same (S A : Type 0) : A → S → A → S → Type 0 where
   same : {a : A} {s : S} → Same S A a s a s
 
-abbrev Single : (S A : Type 0) → Act S A → Type 0
+abbrev pub Single : (S A : Type 0) → Act S A → Type 0
 Single S A m = (s : S) (r : Result A) (t : S) (r2 : Result A) (t2 : S) → m s r t → m s r2 t2 → Same S (Result A) r t r2 t2
 
 abbrev SingleSight : (S V : Type 0) → Sight S V → Type 0
 SingleSight S V m = (s : S) (r : Outcome V) (t : S) (r2 : Outcome V) (t2 : S) → m s r t → m s r2 t2 → Same S (Outcome V) r t r2 t2
 
-returns_single : (S A : Type 0) (a : A) → Single S A (Returns S A a)
+pub returns_single : (S A : Type 0) (a : A) → Single S A (Returns S A a)
 returns_single S A a s r t r2 t2 Returns.returns Returns.returns = Same.same
 
 same_by : {S A : Type 0} {r r2 : A} {t t2 : S} → r ≡ r2 → t ≡ t2 → Same S A r t r2 t2
 same_by {S} {A} {r} {r2} {t} {t2} p q = subst (λ x. Same S A r t x t2) p (subst (λ y. Same S A r t r y) q Same.same)
 
-same_value : {S A : Type 0} {r r2 : A} {t t2 : S} → Same S A r t r2 t2 → r ≡ r2
+pub same_value : {S A : Type 0} {r r2 : A} {t t2 : S} → Same S A r t r2 t2 → r ≡ r2
 same_value Same.same = refl
 
 same_state : {S A : Type 0} {r r2 : A} {t t2 : S} → Same S A r t r2 t2 → t ≡ t2
 same_state Same.same = refl
 
-asks_single : (S A : Type 0) (f : S → Ending S A) → Single S A (Asks S A f)
+pub asks_single : (S A : Type 0) (f : S → Ending S A) → Single S A (Asks S A f)
 asks_single S A f s r t r2 t2 (Asks.asks p) (Asks.asks q) = same_by (cc) (cc)
 
-settles_single : (S A : Type 0) (f : S → Result A) → Single S A (Settles S A f)
+pub settles_single : (S A : Type 0) (f : S → Result A) → Single S A (Settles S A f)
 settles_single S A f s r t r2 t2 (Settles.settles p) (Settles.settles q) = same_by (cc) refl
 
-gives_throws : {V : Type 0} {A : Type 0} {a : V} → Result.gives a ≡ Result.throws → A
+pub gives_throws : {V : Type 0} {A : Type 0} {a : V} → Result.gives a ≡ Result.throws → A
 gives_throws {V} {A} {a} p = let z : ◌≡◌ {A = ℕ} 0 1 = cc in absurd (omega arith)
 
 then_goes : {S A B : Type 0} {k : A → Act S B} → ((a : A) → Single S B (k a)) → {a a2 : A} {u u2 : S} {r : Result B} {t : S} {r2 : Result B} {t2 : S}
     → Same S (Result A) (Result.gives a) u (Result.gives a2) u2 → k a u r t → k a2 u2 r2 t2 → Same S (Result B) r t r2 t2
 then_goes j Same.same q q2 = j _ _ _ _ _ _ q q2
 
-then_single : {S A B : Type 0} {m : Act S A} {k : A → Act S B} → Single S A m → ((a : A) → Single S B (k a)) → Single S B (Then S A B m k)
+pub then_single : {S A B : Type 0} {m : Act S A} {k : A → Act S B} → Single S A m → ((a : A) → Single S B (k a)) → Single S B (Then S A B m k)
 then_single h j s r t r2 t2 (Then.goes p q) (Then.goes p2 q2) = then_goes j (h _ _ _ _ _ p p2) q q2
 then_single h j s r t r2 t2 (Then.goes p q) (Then.stops p2) = gives_throws (same_value (h _ _ _ _ _ p p2))
 then_single h j s r t r2 t2 (Then.stops p) (Then.goes p2 q2) = gives_throws (sym (same_value (h _ _ _ _ _ p p2)))
 then_single h j s r t r2 t2 (Then.stops p) (Then.stops p2) = same_by refl (same_state (h _ _ _ _ _ p p2))
 
-watched_single : {S A : Type 0} {m : Act S A} (c : Mode) → Single S A m → Single S A (Watched S A m c)
+pub watched_single : {S A : Type 0} {m : Act S A} (c : Mode) → Single S A m → Single S A (Watched S A m c)
 watched_single Mode.free h s r t r2 t2 (Watched.freely p) (Watched.freely q) = h _ _ _ _ _ p q
 watched_single Mode.calm h s r t r2 t2 (Watched.calmly p _) (Watched.calmly q _) = h _ _ _ _ _ p q
 
@@ -91,7 +91,7 @@ module _ (w : World) where
   get_value_single : (b : Pair (ValueIn w)) → Once (get_value w b)
   get_value_single (Pair.pair o k) = asks_single _ _ _
 
-  get_method_single : (b : Pair (ValueIn w)) → Once (get_method w b)
+  pub get_method_single : (b : Pair (ValueIn w)) → Once (get_method w b)
   get_method_single (Pair.pair o k) = then_single (asks_single _ _ _) (λ f. returns_single _ _ _)
 
   apply_single : (vs : List (ValueIn w)) (b : Pair (ValueIn w)) → Once (apply_to w vs b)
@@ -109,7 +109,7 @@ module _ (w : World) where
   mutual
     unfolding mean
 
-    mean_single : (c : Mode) (x : Expression) → Once (mean w c x).run × OnceReference (mean w c x).refers
+    pub mean_single : (c : Mode) (x : Expression) → Once (mean w c x).run × OnceReference (mean w c x).refers
     mean_single c (Expression.string _ u) = (watched_single c (returns_single _ _ _), tt)
     mean_single c (Expression.number _ u) = (watched_single c (returns_single _ _ _), tt)
     mean_single c (Expression.boolean _ u) = (watched_single c (returns_single _ _ _), tt)
@@ -124,13 +124,13 @@ module _ (w : World) where
     mean_single c (Expression.binary _ o x y) = (watched_single c (then_single (mean_single c x).0 (λ v. then_single (mean_single c y).0 (λ v. settles_single _ _ _))), tt)
     mean_single c (Expression.opaque _ b k xs) = (watched_single c (λ s r t r2 t2 d d2. steps_single (children_single c b xs) d r2 t2 d2), tt)
 
-    elements_single : (c : Mode) (xs : Elements) → Once (elements w c xs)
+    pub elements_single : (c : Mode) (xs : Elements) → Once (elements w c xs)
     elements_single c Elements.no_elements = returns_single _ _ _
     elements_single c (Elements.hole _ xs) = then_single (elements_single c xs) (λ v. returns_single _ _ _)
     elements_single c (Elements.spread _ x xs) = then_single (watched_single c (then_single (mean_single c x).0 (λ v. asks_single _ _ _))) (λ v. then_single (elements_single c xs) (λ v. returns_single _ _ _))
     elements_single c (Elements.item x xs) = then_single (mean_single c x).0 (λ v. then_single (elements_single c xs) (λ v. returns_single _ _ _))
 
-    arguments_single : (c : Mode) (xs : Arguments) → Once (arguments w c xs)
+    pub arguments_single : (c : Mode) (xs : Arguments) → Once (arguments w c xs)
     arguments_single c Arguments.no_arguments = returns_single _ _ _
     arguments_single c (Arguments.spread_argument _ x xs) = then_single (watched_single c (then_single (mean_single c x).0 (λ v. asks_single _ _ _))) (λ v. then_single (arguments_single c xs) (λ v. returns_single _ _ _))
     arguments_single c (Arguments.argument x xs) = then_single (mean_single c x).0 (λ v. then_single (arguments_single c xs) (λ v. returns_single _ _ _))

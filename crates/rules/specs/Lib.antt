@@ -1,0 +1,5 @@
+pub mod Deciding
+pub mod Facts
+pub mod Property
+pub mod Indexed
+pub mod Laws

@@ -1,0 +1,16 @@
+// The laws of the rules. Each function's contract states one, and its body does nothing.
+ghost use Rattle.rules.specs.Laws.{PropertyKeepsMeaning, PropertyRewritesExactlyWhen};
+
+use meaning::Engine;
+
+// Whatever the rule property makes of an expression has the same runs, in every world with the premises, if the answers
+// that it asked for are true there.
+pub fn property_keeps_meaning<W: Engine>()
+    ensures { PropertyKeepsMeaning W.Engine.world }
+{}
+
+// By the answers of any host the rule property rewrites exactly the strings and array literals at an index that its
+// relation names, to exactly that expression.
+pub fn property_rewrites_exactly_when()
+    ensures { PropertyRewritesExactlyWhen }
+{}

@@ -1,0 +1,7 @@
+// The rules by which a payoff gets shorter: what they decide stands in specs/, and the laws of it are the contracts here.
+
+#![tactic(auto)]
+
+mod laws;
+
+pub use laws::{property_keeps_meaning, property_rewrites_exactly_when};
