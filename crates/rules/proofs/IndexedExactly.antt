@@ -1,14 +1,14 @@
 -- What the relation of the rule property says is decided.
-use Rattle.std.proofs.Common.{◌≡◌, ℕ, zero, suc, ◌^◌, ◌<◌, Bool, true, false, [], ◌∷◌, Some, None, slice_get, nat_le, refl, ap, ◌∙◌, arith}
+use Rattle.std.proofs.Common.{◌≡◌, ℕ, zero, suc, ◌^◌, ◌<◌, true, [], ◌∷◌, Some, None, slice_get, nat_le, refl, ap, ◌∙◌, arith}
 use Rattle.meaning.specs.Expression.{Expression, Elements, Units}
 use Rattle.meaning.specs.Number.{Number, whole}
 use Rattle.host.specs.Answers.{Answers}
-use Rattle.rules.specs.Deciding.{Deciding, Role, decided, when, unless_effects}
+use Rattle.rules.specs.Deciding.{Role, decided}
 use Rattle.rules.specs.Facts.{said}
 use Rattle.rules.specs.Property.{void_zero, unit_or_void, element_at, without_effects, at_index, at_whole, at_key, property_read, property_rule}
 use Rattle.rules.specs.Indexed.{UnitAt, ElementAt, PropertyBecomes, TakesValue}
 use Rattle.rules.specs.Laws.{PropertyRewritesExactlyWhen}
-use Rattle.rules.proofs.Leading.{said_to}
+use Rattle.rules.proofs.Leading.{said_to, when_decided, unless_decided}
 use Rattle.rules.proofs.Indexing.{property_leads}
 
 unit_is : (next : ℕ) (u : Units) (k v : ℕ) → slice_get u k ≡ Some v → unit_or_void next u k ≡ Expression.string next (v ∷ [])
@@ -35,29 +35,19 @@ element_exactly next (ElementAt.past_item d) = element_exactly next d
 element_exactly next (ElementAt.past_hole d) = element_exactly next d
 
 module _ (a : Answers) (next : ℕ) where
-  without_exactly : (y : Expression) {e : Bool} → e ≡ false → decided a (unless_effects e (Deciding.becomes y) Deciding.keep) ≡ Some y
-  unfolding decided unless_effects
-  without_exactly y {e = true} e = let z : ◌≡◌ {A = ℕ} 0 1 = cc in absurd (omega arith)
-  without_exactly y {e = false} e = refl
-
   small : (k : ℕ) → k < 2 ^ 32 → nat_le k 4294967295 ≡ true
   small k l = grind arith
 
-  at_small : (b : Bool) (d : Deciding) → b ≡ true → decided a (when b d) ≡ decided a d
-  unfolding when
-  at_small true d e = refl
-  at_small false d e = let z : ◌≡◌ {A = ℕ} 0 1 = cc in absurd (omega arith)
-
   index_exactly : (o y : Expression) (n k : ℕ) → whole (Number.bits n) ≡ Some k → k < 2 ^ 32 → decided a (at_index next o k) ≡ Some y → decided a (at_whole next o (whole (Number.bits n))) ≡ Some y
   unfolding at_whole
-  index_exactly o y n k e l h = ap (λ z. decided a (at_whole next o z)) e ∙ at_small (nat_le k 4294967295) (at_index next o k) (small k l) ∙ h
+  index_exactly o y n k e l h = ap (λ z. decided a (at_whole next o z)) e ∙ when_decided a (nat_le k 4294967295) (at_index next o k) (small k l) ∙ h
 
   read_exactly : {x y : Expression} → PropertyBecomes (said a) next x y → decided a (property_read next x) ≡ Some y
   unfolding decided property_read at_key at_index without_effects
   read_exactly (PropertyBecomes.of_string {i = i} {n = n} {k = k} {u = u} h e l q) =
-      index_exactly (Expression.string i u) _ n k e l (without_exactly _ h ∙ ap Some (unit_exactly next u k q))
+      index_exactly (Expression.string i u) _ n k e l (unless_decided a _ _ _ h ∙ ap Some (unit_exactly next u k q))
   read_exactly (PropertyBecomes.of_array {i = i} {n = n} {k = k} {xs = xs} h e l q) =
-      index_exactly (Expression.array i xs) _ n k e l (ap (λ z. decided a (without_effects (Expression.array i xs) z)) (element_exactly next q) ∙ without_exactly _ h)
+      index_exactly (Expression.array i xs) _ n k e l (ap (λ z. decided a (without_effects (Expression.array i xs) z)) (element_exactly next q) ∙ unless_decided a _ _ _ h)
 
   rule_exactly : (r : Role) {x y : Expression} → TakesValue r → PropertyBecomes (said a) next x y → decided a (property_rule next r x) ≡ Some y
   unfolding property_rule

@@ -1,5 +1,5 @@
 -- Where a decision leads to, whatever is answered: then that holds of what is decided.
-use Rattle.std.proofs.Common.{◌≡◌, ℕ, Bool, true, false, List, [], ◌∷◌, Some, refl, subst, arith}
+use Rattle.std.proofs.Common.{◌≡◌, ℕ, Bool, true, false, cond, List, [], ◌∷◌, Some, Option, refl, subst, arith}
 use Rattle.host.specs.declared.value_type.ValueType.{ValueType}
 use Rattle.meaning.specs.Expression.{Expression}
 use Rattle.meaning.specs.Parts.{Part}
@@ -22,6 +22,10 @@ module _ (f : Facts) (P : Expression → Type 0) where
   unfolding when
   when_leads true d h = h refl
   when_leads false d h = tt
+
+  pub cond_leads : (b : Bool) (d e : Deciding) → (b ≡ true → Leads d) → (b ≡ false → Leads e) → Leads (cond b d e)
+  cond_leads true d e h k = h refl
+  cond_leads false d e h k = k refl
 
   pub unless_leads : (p : Part) (d e : Deciding) → (f.effects false p → Leads d) → (f.effects true p → Leads e) → Leads (Deciding.ask_effects p (λ b. unless_effects b d e))
   unfolding unless_effects
@@ -87,3 +91,19 @@ all_true P w a (q ∷ qs) h = (true_holds P w a q h.0, all_true P w a qs h.1)
 
 pub truly_to : (P : Expression → Type 0) (w : World) (a : Answers) (d : Deciding) → Leads (true_in w) P d → AllTrue w a (asked a d) → (y : Expression) → decided a d ≡ Some y → P y
 truly_to P w a d l h y e = led_to (true_in w) P a d l (all_true P w a (asked a d) h) y e
+
+-- ---- the other way round: conditions that hold decide as if they were not there
+
+pub when_decided : (a : Answers) (b : Bool) (d : Deciding) → b ≡ true → decided a (when b d) ≡ decided a d
+unfolding when
+when_decided a true d e = refl
+when_decided a false d e = let z : ◌≡◌ {A = ℕ} 0 1 = cc in absurd (omega arith)
+
+pub unless_decided : (a : Answers) (b : Bool) (d e : Deciding) → b ≡ false → decided a (unless_effects b d e) ≡ decided a d
+unfolding unless_effects
+unless_decided a false d e h = refl
+unless_decided a true d e h = let z : ◌≡◌ {A = ℕ} 0 1 = cc in absurd (omega arith)
+
+pub cond_decided : (a : Answers) (b : Bool) (d e : Deciding) (z : Option Expression) → (b ≡ true → decided a d ≡ z) → (b ≡ false → decided a e ≡ z) → decided a (cond b d e) ≡ z
+cond_decided a true d e z h k = h refl
+cond_decided a false d e z h k = k refl

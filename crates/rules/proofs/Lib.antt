@@ -2,5 +2,16 @@ pub mod Alike
 pub mod Leading
 pub mod Keeping
 pub mod Indexing
-pub mod Reading
 pub mod IndexedExactly
+pub mod Reading
+pub mod Interleaved
+pub mod Takings
+pub mod Calling
+pub mod Callees
+pub mod Globals
+pub mod Texts
+pub mod Commuting
+pub mod Templates
+pub mod Merging
+pub mod MethodKeeps
+pub mod MethodExactly

@@ -6,10 +6,12 @@ use Rattle.meaning.specs.Premises.{Premises}
 use Rattle.meaning.specs.Replacing.{Keeps}
 use Rattle.host.specs.Answers.{Answers, Question}
 use Rattle.host.specs.Truth.{TrueAnswer}
-use Rattle.rules.specs.Deciding.{Deciding, Role, decided, asked}
+use Rattle.rules.specs.Deciding.{Deciding, Role, Settings, decided, asked}
 use Rattle.rules.specs.Facts.{said}
 use Rattle.rules.specs.Property.{property_rule}
 use Rattle.rules.specs.Indexed.{PropertyBecomes, TakesValue}
+use Rattle.rules.specs.Method.{method_rule}
+use Rattle.rules.specs.MethodBecomes.{MethodBecomes}
 
 -- Each answer that was asked for is true in a world.
 abbrev pub AllTrue : World → Answers → List Question → Type 0
@@ -40,3 +42,12 @@ abbrev pub PropertyRewritesExactlyWhen : Type 0
 PropertyRewritesExactlyWhen =
     (a : Answers) (next : ℕ) (r : Role) (x y : Expression)
     → (decided a (property_rule next r x) ≡ Some y) ↔ (TakesValue r × PropertyBecomes (said a) next x y)
+
+-- Of the rule method.
+abbrev pub MethodKeepsMeaning : World → Type 0
+MethodKeepsMeaning w = (s : Settings) → KeepsMeaning w (method_rule s)
+
+abbrev pub MethodRewritesExactlyWhen : Type 0
+MethodRewritesExactlyWhen =
+    (a : Answers) (s : Settings) (next : ℕ) (r : Role) (x y : Expression)
+    → (decided a (method_rule s next r x) ≡ Some y) ↔ MethodBecomes (said a) s next r x y

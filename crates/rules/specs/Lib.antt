@@ -1,5 +1,11 @@
 pub mod Deciding
 pub mod Facts
+pub mod Building
+pub mod Interleaves
+pub mod Interleaving
+pub mod Taking
 pub mod Property
 pub mod Indexed
+pub mod Method
+pub mod MethodBecomes
 pub mod Laws

@@ -4,4 +4,7 @@
 
 mod laws;
 
-pub use laws::{property_keeps_meaning, property_rewrites_exactly_when};
+pub use laws::{
+    method_keeps_meaning, method_rewrites_exactly_when, property_keeps_meaning,
+    property_rewrites_exactly_when,
+};
