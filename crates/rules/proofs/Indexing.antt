@@ -6,7 +6,7 @@ use Rattle.rules.specs.Deciding.{Role}
 use Rattle.rules.specs.Facts.{Facts}
 use Rattle.rules.specs.Property.{unit_or_void, element_at, without_effects, at_index, at_whole, at_key, property_read, property_rule}
 use Rattle.rules.specs.Indexed.{UnitAt, ElementAt, PropertyBecomes, TakesValue}
-use Rattle.rules.proofs.Leading.{Leads, when_leads, unless_leads, leads_with}
+use Rattle.rules.proofs.Leading.{Leads, when_leads, unless_leads, leads_map}
 
 unit_found : (next : ℕ) (u : Units) (k : ℕ) → UnitAt next u k (unit_or_void next u k)
 unfolding unit_or_void
@@ -70,6 +70,6 @@ module _ (f : Facts) (next : ℕ) where
 
   pub property_leads : (r : Role) (x : Expression) → Leads f (λ y. TakesValue r × PropertyBecomes f next x y) (property_rule next r x)
   unfolding property_rule
-  property_leads Role.ordinary x = leads_with f (PropertyBecomes f next x) tt _ (read_leads x)
-  property_leads Role.concat_object x = leads_with f (PropertyBecomes f next x) tt _ (read_leads x)
+  property_leads Role.ordinary x = leads_map f (PropertyBecomes f next x) _ (λ y d. (tt, d)) _ (read_leads x)
+  property_leads Role.concat_object x = leads_map f (PropertyBecomes f next x) _ (λ y d. (tt, d)) _ (read_leads x)
   property_leads Role.referred x = tt

@@ -50,13 +50,13 @@ module _ (f : Facts) (P : Expression → Type 0) where
     led_to (Deciding.ask_type p k) l h y e = led_to (k (a.value_type p)) (l (a.value_type p) h.0) h.1 y e
     led_to (Deciding.ask_global p k) l h y e = led_to (k (a.global p)) (l (a.global p) h.0) h.1 y e
 
--- and something more, which does not depend on what is decided
-pub leads_with : (f : Facts) (P : Expression → Type 0) {Q : Type 0} → Q → (d : Deciding) → Leads f P d → Leads f (λ y. Q × P y) d
-leads_with f P q Deciding.keep l = tt
-leads_with f P q (Deciding.becomes y) l = (q, l)
-leads_with f P q (Deciding.ask_effects p k) l = λ b i. leads_with f P q (k b) (l b i)
-leads_with f P q (Deciding.ask_type p k) l = λ t i. leads_with f P q (k t) (l t i)
-leads_with f P q (Deciding.ask_global p k) l = λ b i. leads_with f P q (k b) (l b i)
+-- and so to all that follows from it
+pub leads_map : (f : Facts) (P Q : Expression → Type 0) → ((y : Expression) → P y → Q y) → (d : Deciding) → Leads f P d → Leads f Q d
+leads_map f P Q h Deciding.keep l = tt
+leads_map f P Q h (Deciding.becomes y) l = h y l
+leads_map f P Q h (Deciding.ask_effects p k) l = λ b i. leads_map f P Q h (k b) (l b i)
+leads_map f P Q h (Deciding.ask_type p k) l = λ t i. leads_map f P Q h (k t) (l t i)
+leads_map f P Q h (Deciding.ask_global p k) l = λ b i. leads_map f P Q h (k b) (l b i)
 
 -- what a host says, it says
 said_holds : (P : Expression → Type 0) (a : Answers) (q : Question) → Holds (said a) P a q

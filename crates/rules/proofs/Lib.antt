@@ -15,3 +15,10 @@ pub mod Templates
 pub mod Merging
 pub mod MethodKeeps
 pub mod MethodExactly
+pub mod Together
+pub mod Walking
+pub mod ReadLater
+pub mod Chaining
+pub mod StringChains
+pub mod ArrayChains
+pub mod ChainKeeps

@@ -12,6 +12,7 @@ use Rattle.rules.specs.Property.{property_rule}
 use Rattle.rules.specs.Indexed.{PropertyBecomes, TakesValue}
 use Rattle.rules.specs.Method.{method_rule}
 use Rattle.rules.specs.MethodBecomes.{MethodBecomes}
+use Rattle.rules.specs.Chain.{chain_rule}
 
 -- Each answer that was asked for is true in a world.
 abbrev pub AllTrue : World → Answers → List Question → Type 0
@@ -51,3 +52,7 @@ abbrev pub MethodRewritesExactlyWhen : Type 0
 MethodRewritesExactlyWhen =
     (a : Answers) (s : Settings) (next : ℕ) (r : Role) (x y : Expression)
     → (decided a (method_rule s next r x) ≡ Some y) ↔ MethodBecomes (said a) s next r x y
+
+-- Of the rule chain.
+abbrev pub ChainKeepsMeaning : World → Type 0
+ChainKeepsMeaning w = (s : Settings) → KeepsMeaning w (chain_rule s)

@@ -8,4 +8,6 @@ pub mod Property
 pub mod Indexed
 pub mod Method
 pub mod MethodBecomes
+pub mod Chain
+pub mod ChainBecomes
 pub mod Laws

@@ -1,5 +1,5 @@
 // The laws of the rules. Each function's contract states one, and its body does nothing.
-ghost use Rattle.rules.specs.Laws.{PropertyKeepsMeaning, PropertyRewritesExactlyWhen, MethodKeepsMeaning, MethodRewritesExactlyWhen};
+ghost use Rattle.rules.specs.Laws.{ChainKeepsMeaning, PropertyKeepsMeaning, PropertyRewritesExactlyWhen, MethodKeepsMeaning, MethodRewritesExactlyWhen};
 
 use meaning::Engine;
 
@@ -24,4 +24,10 @@ pub fn method_keeps_meaning<W: Engine>()
 // By the answers of any host the rule method rewrites exactly the calls that its relation names, to exactly that expression.
 pub fn method_rewrites_exactly_when()
     ensures { MethodRewritesExactlyWhen }
+{}
+
+// Whatever the rule chain makes of an expression has the same runs, in every world with the premises, if the answers that it
+// asked for are true there.
+pub fn chain_keeps_meaning<W: Engine>()
+    ensures { ChainKeepsMeaning W.Engine.world }
 {}

@@ -5,6 +5,6 @@
 mod laws;
 
 pub use laws::{
-    method_keeps_meaning, method_rewrites_exactly_when, property_keeps_meaning,
-    property_rewrites_exactly_when,
+    chain_keeps_meaning, method_keeps_meaning, method_rewrites_exactly_when,
+    property_keeps_meaning, property_rewrites_exactly_when,
 };
