@@ -22,3 +22,5 @@ pub mod Chaining
 pub mod StringChains
 pub mod ArrayChains
 pub mod ChainKeeps
+pub mod Sizes
+pub mod Shrinking

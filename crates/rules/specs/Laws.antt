@@ -1,9 +1,10 @@
 -- The laws of the rules.
-use Rattle.std.specs.Prelude.{◌≡◌, ℕ, List, [], ◌∷◌, Some, ◌⊎◌, ◌↔◌}
+use Rattle.std.specs.Prelude.{◌≡◌, ℕ, ◌<◌, List, [], ◌∷◌, Some, ◌⊎◌, ◌↔◌}
+use Rattle.tree.specs.declared.node.FirstChild.{FirstChild}
 use Rattle.meaning.specs.Expression.{Expression, NoMember}
 use Rattle.meaning.specs.World.{World}
 use Rattle.meaning.specs.Premises.{Premises}
-use Rattle.meaning.specs.Replacing.{Keeps}
+use Rattle.meaning.specs.Replacing.{Keeps, Swap}
 use Rattle.host.specs.Answers.{Answers, Question}
 use Rattle.host.specs.Truth.{TrueAnswer}
 use Rattle.rules.specs.Deciding.{Deciding, Role, Settings, decided, asked}
@@ -13,6 +14,7 @@ use Rattle.rules.specs.Indexed.{PropertyBecomes, TakesValue}
 use Rattle.rules.specs.Method.{method_rule}
 use Rattle.rules.specs.MethodBecomes.{MethodBecomes}
 use Rattle.rules.specs.Chain.{chain_rule}
+use Rattle.rules.specs.Size.{size}
 
 -- Each answer that was asked for is true in a world.
 abbrev pub AllTrue : World → Answers → List Question → Type 0
@@ -56,3 +58,15 @@ MethodRewritesExactlyWhen =
 -- Of the rule chain.
 abbrev pub ChainKeepsMeaning : World → Type 0
 ChainKeepsMeaning w = (s : Settings) → KeepsMeaning w (chain_rule s)
+
+-- Each rewrite, by the answers of any host, makes the expression smaller.
+abbrev pub ARewriteMakesItSmaller : Type 0
+ARewriteMakesItSmaller =
+    (a : Answers) (s : Settings) (next : ℕ) (r : Role) (x y : Expression)
+    → (decided a (chain_rule s next r x) ≡ Some y → size y < size x)
+    × (decided a (method_rule s next r x) ≡ Some y → size y < size x)
+    × (decided a (property_rule next r x) ≡ Some y → size y < size x)
+
+-- And so a whole in which it is made at one place.
+abbrev pub ASmallerPartMakesTheWholeSmaller : Type 0
+ASmallerPartMakesTheWholeSmaller = (old new x y : Expression) (taken : FirstChild) → size new < size old → Swap old new taken x y → size y < size x

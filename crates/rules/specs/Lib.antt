@@ -10,4 +10,5 @@ pub mod Method
 pub mod MethodBecomes
 pub mod Chain
 pub mod ChainBecomes
+pub mod Size
 pub mod Laws

@@ -1,5 +1,5 @@
 // The laws of the rules. Each function's contract states one, and its body does nothing.
-ghost use Rattle.rules.specs.Laws.{ChainKeepsMeaning, PropertyKeepsMeaning, PropertyRewritesExactlyWhen, MethodKeepsMeaning, MethodRewritesExactlyWhen};
+ghost use Rattle.rules.specs.Laws.{ARewriteMakesItSmaller, ASmallerPartMakesTheWholeSmaller, ChainKeepsMeaning, PropertyKeepsMeaning, PropertyRewritesExactlyWhen, MethodKeepsMeaning, MethodRewritesExactlyWhen};
 
 use meaning::Engine;
 
@@ -30,4 +30,14 @@ pub fn method_rewrites_exactly_when()
 // asked for are true there.
 pub fn chain_keeps_meaning<W: Engine>()
     ensures { ChainKeepsMeaning W.Engine.world }
+{}
+
+// Each rewrite takes calls, members or arguments away, counted together.
+pub fn a_rewrite_makes_it_smaller()
+    ensures { ARewriteMakesItSmaller }
+{}
+
+// Where a smaller expression replaces another at one place, the whole is smaller.
+pub fn a_smaller_part_makes_the_whole_smaller()
+    ensures { ASmallerPartMakesTheWholeSmaller }
 {}
