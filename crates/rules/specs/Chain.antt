@@ -5,7 +5,7 @@ use Rattle.meaning.specs.Methods.{concat_name}
 use Rattle.meaning.specs.Parts.{Part}
 use Rattle.rules.specs.Deciding.{Deciding, Role, Settings, when, unless_effects, settled, same_name, outermost}
 use Rattle.rules.specs.Building.{append_arguments, joined}
-use Rattle.rules.specs.Interleaving.{no_spread, none_left, all_quiet, interleaving, short}
+use Rattle.rules.specs.Interleaving.{no_spread, none_left, interleaving, short}
 
 -- The calls of a chain, as the arguments of each, the innermost call first, with the innermost callee, whose object is a
 -- string of this text or an array literal. oxc_minifier's `replace_concat_chain`, `collected_arguments` and `new_root_callee`.
@@ -43,47 +43,15 @@ unfoldable pub each_interleaving : List Arguments → Deciding → Deciding
 each_interleaving [] d = d
 each_interleaving (xs ∷ xss) d = interleaving xs (each_interleaving xss d) Deciding.keep
 
--- One decision if all arguments together interleave, and another if only each call by itself does. Both are found out in one
--- walk, so that nothing is asked twice. As long as every argument was settled, types are asked. (The original walks twice,
--- by `string_concat_can_interleave`.)
--- Arguments that are settled, or one that is not, behind which none in its call has effects.
-unfoldable pub settling : Arguments → (later : Arguments) → Deciding → Deciding → Deciding
-settling Arguments.no_arguments later d e = d
-settling (Arguments.argument x xs) later d e =
-    cond (none_left xs && none_left later) d (Deciding.ask_type (Part.expression x) (λ t. cond (settled t) (settling xs later d e) (all_quiet xs e Deciding.keep)))
-settling (Arguments.spread_argument l x xs) later d e = Deciding.keep
-
--- Arguments without effects, before one with effects in the same call: they have to be settled.
-unfoldable pub all_settled : Arguments → Deciding → Deciding
-all_settled Arguments.no_arguments d = d
-all_settled (Arguments.argument x xs) d = Deciding.ask_type (Part.expression x) (λ t. when (settled t) (all_settled xs d))
-all_settled (Arguments.spread_argument l x xs) d = Deciding.keep
-
--- Calls behind one with an argument that is not settled: effects are asked, and where one is found, only each call by itself
--- may interleave. The first arguments of the call are those before this one.
-unfoldable pub quiet_call : Arguments → Arguments → Deciding → Deciding → Deciding
-quiet_call before Arguments.no_arguments d e = d
-quiet_call before (Arguments.argument x xs) d e =
-    Deciding.ask_effects (Part.expression x)
-    (λ b. unless_effects b (quiet_call (append_arguments before (Arguments.argument x Arguments.no_arguments)) xs d e) (all_settled before (interleaving (Arguments.argument x xs) e Deciding.keep)))
-quiet_call before (Arguments.spread_argument l x xs) d e = Deciding.keep
-
-unfoldable pub quiet_calls : List Arguments → Deciding → Deciding → Deciding
-quiet_calls [] d e = d
-quiet_calls (xs ∷ xss) d e = quiet_call Arguments.no_arguments xs (quiet_calls xss d e) (each_interleaving xss e)
-
-unfoldable pub together_or_each : List Arguments → Deciding → Deciding → Deciding
-together_or_each [] d e = d
-together_or_each (xs ∷ xss) d e = settling xs (flat xss) (together_or_each xss d e) (quiet_calls xss d e)
-
--- A template, or one call. Where a template is short even against one call, it does not matter whether all arguments
--- together interleave; where it is too long against all calls, only that does. oxc_minifier's `replace_concat_chain`.
+-- A template where it is short even against one call. Else one call, if all arguments together interleave; and if they do
+-- not, a template where it is short against all the calls. oxc_minifier's `replace_concat_chain`, where `call_count` is 1 if
+-- all interleave together.
 unfoldable pub string_chain : Settings → ℕ → Expression → Units → List Arguments → Deciding
 string_chain s next f u xss =
     when (no_spread (flat xss))
     (cond (s.templates && short 1 (flat xss)) (each_interleaving xss (Deciding.becomes (joined next u (flat xss))))
-    (cond (s.templates && short (length xss) (flat xss)) (together_or_each xss (Deciding.becomes (Expression.call next f (flat xss))) (Deciding.becomes (joined next u (flat xss))))
-    (interleaving (flat xss) (Deciding.becomes (Expression.call next f (flat xss))) Deciding.keep)))
+    (interleaving (flat xss) (Deciding.becomes (Expression.call next f (flat xss)))
+    (when (s.templates && short (length xss) (flat xss)) (each_interleaving xss (Deciding.becomes (joined next u (flat xss)))))))
 
 -- ---- of an array
 
