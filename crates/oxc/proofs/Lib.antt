@@ -1,0 +1,5 @@
+pub mod Escaping
+pub mod Accessing
+pub mod Folding
+pub mod Methods
+pub mod Chains

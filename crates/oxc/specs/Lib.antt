@@ -1,0 +1,4 @@
+pub mod Escaping
+pub mod Folding
+pub mod Functions
+pub mod Laws
