@@ -3,3 +3,4 @@ pub mod Accessing
 pub mod Folding
 pub mod Methods
 pub mod Chains
+pub mod Parting

@@ -2,3 +2,4 @@ pub mod Escaping
 pub mod Folding
 pub mod Functions
 pub mod Laws
+pub mod Parting

@@ -1,4 +1,5 @@
 // What the Rust gives and what the port gives. Each function's contract states it, and its body does nothing.
+ghost use Rattle.oxc.specs.Parting.{TheRustPartsFromTheStandard};
 ghost use Rattle.oxc.specs.Laws.{TheRustEscapesAlike, TheRustAccessesAlike, TheRustReplacesMethodsAlike, TheRustJoinsChainsAlike};
 
 // Escaping a text into the raw text of a template.
@@ -19,4 +20,9 @@ pub fn the_rust_replaces_methods_alike()
 // Chains of `concat`.
 pub fn the_rust_joins_chains_alike()
     ensures { TheRustJoinsChainsAlike }
+{}
+
+// There is a payoff that `replace_concat_chain` changes in what it does, in a world with the premises.
+pub fn the_rust_parts_from_the_standard()
+    ensures { TheRustPartsFromTheStandard }
 {}

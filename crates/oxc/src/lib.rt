@@ -7,5 +7,5 @@ mod laws;
 
 pub use laws::{
     the_rust_accesses_alike, the_rust_escapes_alike, the_rust_joins_chains_alike,
-    the_rust_replaces_methods_alike,
+    the_rust_parts_from_the_standard, the_rust_replaces_methods_alike,
 };

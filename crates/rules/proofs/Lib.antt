@@ -24,3 +24,4 @@ pub mod ArrayChains
 pub mod ChainKeeps
 pub mod Sizes
 pub mod Shrinking
+pub mod Examples

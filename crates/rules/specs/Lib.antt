@@ -11,4 +11,5 @@ pub mod MethodBecomes
 pub mod Chain
 pub mod ChainBecomes
 pub mod Size
+pub mod Examples
 pub mod Laws

@@ -1,4 +1,5 @@
 // The laws of the rules. Each function's contract states one, and its body does nothing.
+ghost use Rattle.rules.specs.Examples.{WorkedExamples};
 ghost use Rattle.rules.specs.Laws.{ARewriteMakesItSmaller, ASmallerPartMakesTheWholeSmaller, ChainKeepsMeaning, PropertyKeepsMeaning, PropertyRewritesExactlyWhen, MethodKeepsMeaning, MethodRewritesExactlyWhen};
 
 use meaning::Engine;
@@ -40,4 +41,9 @@ pub fn a_rewrite_makes_it_smaller()
 // Where a smaller expression replaces another at one place, the whole is smaller.
 pub fn a_smaller_part_makes_the_whole_smaller()
     ensures { ASmallerPartMakesTheWholeSmaller }
+{}
+
+// What the rules make of twelve examples.
+pub fn worked_examples()
+    ensures { WorkedExamples }
 {}
