@@ -22,6 +22,9 @@ pub mod Chaining
 pub mod StringChains
 pub mod ArrayChains
 pub mod ChainKeeps
+pub mod WalkExactly
+pub mod ReadExactly
+pub mod ChainExactly
 pub mod Sizes
 pub mod Shrinking
 pub mod Examples

@@ -40,17 +40,18 @@ no_spread_exactly a (Arguments.argument x xs) i = no_spread_exactly a xs i.1
 no_spread_exactly a (Arguments.spread_argument l x xs) i = absurd i
 
 module _ (a : Answers) where
-  -- whether the arguments interleave is found out
-  quiet_after : (x : Expression) (xs : Arguments) (d e : Deciding) → settled (a.value_type (Part.expression x)) ≡ false → EachMayFollow (said a) x xs → decided a (all_quiet xs d e) ≡ decided a d
+  -- what may follow an argument that is not settled has no effects
+  pub quiet_of : (x y : Expression) → settled (a.value_type (Part.expression x)) ≡ false → SettledType (said a) x ⊎ (a.effects (Part.expression y) ≡ false) → a.effects (Part.expression y) ≡ false
+  quiet_of x y u (inl t) = true_false (sym t.2 ∙ ap settled (sym t.1) ∙ u)
+  quiet_of x y u (inr q) = q
+
+  pub quiet_after : (x : Expression) (xs : Arguments) (d e : Deciding) → settled (a.value_type (Part.expression x)) ≡ false → EachMayFollow (said a) x xs → decided a (all_quiet xs d e) ≡ decided a d
   unfolding decided all_quiet
   quiet_after x Arguments.no_arguments d e u h = refl
   quiet_after x (Arguments.spread_argument l y ys) d e u h = absurd h
-  quiet_after x (Arguments.argument y ys) d e u h = unless_decided a _ _ _ (quiet h.0) ∙ quiet_after x ys d e u h.1
-    where
-      quiet : SettledType (said a) x ⊎ (a.effects (Part.expression y) ≡ false) → a.effects (Part.expression y) ≡ false
-      quiet (inl t) = true_false (sym t.2 ∙ ap settled (sym t.1) ∙ u)
-      quiet (inr q) = q
+  quiet_after x (Arguments.argument y ys) d e u h = unless_decided a _ _ _ (quiet_of x y u h.0) ∙ quiet_after x ys d e u h.1
 
+  -- whether the arguments interleave is found out
   pub interleaving_decided : (xs : Arguments) (d e : Deciding) → Interleaves (said a) xs → decided a (interleaving xs d e) ≡ decided a d
   unfolding decided interleaving
   interleaving_decided Arguments.no_arguments d e i = refl

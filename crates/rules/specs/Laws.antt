@@ -14,6 +14,7 @@ use Rattle.rules.specs.Indexed.{PropertyBecomes, TakesValue}
 use Rattle.rules.specs.Method.{method_rule}
 use Rattle.rules.specs.MethodBecomes.{MethodBecomes}
 use Rattle.rules.specs.Chain.{chain_rule}
+use Rattle.rules.specs.ChainBecomes.{ChainBecomes}
 use Rattle.rules.specs.Size.{size}
 
 -- Each answer that was asked for is true in a world.
@@ -70,3 +71,8 @@ ARewriteMakesItSmaller =
 -- And so a whole in which it is made at one place.
 abbrev pub ASmallerPartMakesTheWholeSmaller : Type 0
 ASmallerPartMakesTheWholeSmaller = (old new x y : Expression) (taken : FirstChild) → size new < size old → Swap old new taken x y → size y < size x
+
+abbrev pub ChainRewritesExactlyWhen : Type 0
+ChainRewritesExactlyWhen =
+    (a : Answers) (s : Settings) (next : ℕ) (r : Role) (x y : Expression)
+    → (decided a (chain_rule s next r x) ≡ Some y) ↔ ChainBecomes (said a) s next r x y

@@ -1,6 +1,6 @@
 // The laws of the rules. Each function's contract states one, and its body does nothing.
 ghost use Rattle.rules.specs.Examples.{WorkedExamples};
-ghost use Rattle.rules.specs.Laws.{ARewriteMakesItSmaller, ASmallerPartMakesTheWholeSmaller, ChainKeepsMeaning, PropertyKeepsMeaning, PropertyRewritesExactlyWhen, MethodKeepsMeaning, MethodRewritesExactlyWhen};
+ghost use Rattle.rules.specs.Laws.{ARewriteMakesItSmaller, ASmallerPartMakesTheWholeSmaller, ChainKeepsMeaning, ChainRewritesExactlyWhen, PropertyKeepsMeaning, PropertyRewritesExactlyWhen, MethodKeepsMeaning, MethodRewritesExactlyWhen};
 
 use meaning::Engine;
 
@@ -31,6 +31,11 @@ pub fn method_rewrites_exactly_when()
 // asked for are true there.
 pub fn chain_keeps_meaning<W: Engine>()
     ensures { ChainKeepsMeaning W.Engine.world }
+{}
+
+// By the answers of any host the rule chain rewrites exactly the chains that its relation names, to exactly that expression.
+pub fn chain_rewrites_exactly_when()
+    ensures { ChainRewritesExactlyWhen }
 {}
 
 // Each rewrite takes calls, members or arguments away, counted together.
