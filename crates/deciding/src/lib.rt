@@ -1,0 +1,10 @@
+// What the rules make of a node of the stores: they keep it, or plan what takes its place. A rule reads what it needs of the
+// stores and asks a host; nothing is written here.
+
+#![tactic(auto)]
+
+mod place;
+mod plan;
+
+pub use place::{Place, Support};
+pub use plan::{Calls, Decision, Exponent, Plan};
