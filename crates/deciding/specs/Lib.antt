@@ -1,3 +1,4 @@
 pub mod Standing
 pub mod Meant
 pub mod Plans
+pub mod Index

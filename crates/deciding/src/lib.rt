@@ -3,6 +3,7 @@
 
 #![tactic(auto)]
 
+mod integer_index;
 mod place;
 mod plan;
 
