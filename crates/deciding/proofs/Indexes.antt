@@ -1,5 +1,5 @@
 -- Which numbers are whole, by the fields of their bits.
-use Rattle.std.proofs.Common.{◌≡◌, ℕ, suc, ◌+◌, ◌-◌, ◌*◌, ◌<◌, ◌≤◌, ◌/◌, ◌%◌, ◌^◌, ◌≢◌, Bool, true, false, cond, Some, None, Option, Ok, Err, Result, ◌==◌, nat_le, nat_lt, ◌⊎◌, ⊎_elim, refl, sym, subst, ap, ◌∙◌, arith}
+use Rattle.std.proofs.Common.{◌≡◌, ℕ, ◌+◌, ◌-◌, ◌*◌, ◌<◌, ◌≤◌, ◌/◌, ◌%◌, ◌^◌, Bool, true, false, cond, Some, None, Option, Ok, Err, Result, ◌==◌, nat_le, nat_lt, ◌⊎◌, ⊎_elim, refl, sym, subst, ap, ◌∙◌, arith}
 use Rattle.std.specs.Result.{OkIff, result_ok}
 use Rattle.std.proofs.lemmas.Bool.Decides.{nat_tests}
 use Rattle.std.proofs.Math.Nat.{mod-eq_of_lt}
@@ -7,9 +7,9 @@ use Rattle.std.proofs.Math.Pow.{pow_mono, pow_pos}
 use Rattle.deciding.specs.Index.{IntegerIndex}
 use Rattle.meaning.specs.Number.{Number, exponent_field, fraction_field, whole_of_fields, whole}
 
-pub zero_index : (n : ℕ) → (n ≡ 0) ⊎ ((n ≡ 0 → ⊥) × (n ≡ 9223372036854775808)) → whole (Number.bits n) ≡ Some 0
+pub zero_index : (n : ℕ) → (n ≡ 0) ⊎ ((n ≡ 0 → ⊥) × (n ≡ 9223372036854775808)) → (whole (Number.bits n) ≡ Some 0) × (0 < 2 ^ 32)
 unfolding whole
-zero_index n h = ⊎_elim (λ e. rw e refl) (λ e. rw e.1 refl) h
+zero_index n h = (⊎_elim (λ e. rw e refl) (λ e. rw e.1 refl) h, omega arith)
 
 -- The fields of what is neither zero nor negative.
 equal_no : (n k : ℕ) → (n ≡ k → ⊥) → (n == k) ≡ false
@@ -133,7 +133,7 @@ module _ (n : ℕ) (a : n ≡ 0 → ⊥) (b : n ≡ 9223372036854775808 → ⊥)
 
 -- The cast, where 32 bits hold the number.
 cast_says : {E : Type 0} (n m : ℕ) (r : Result ℕ E) → OkIff r (m < 4294967296) m → whole (Number.bits n) ≡ Some m → IntegerIndex n (result_ok r)
-cast_says n m (Ok x) h w = w ∙ ap Some (sym h.1)
+cast_says n m (Ok x) h w = (w ∙ ap Some (sym h.1), subst (λ z. z < 4294967296) (sym h.1) h.0)
 cast_says n m (Err e) h w = λ k v. let same : m ≡ k = some_same (sym w ∙ v) in subst (λ z. 4294967296 ≤ z) same (not_less m h)
   where
     not_less : (m : ℕ) → (m < 4294967296 → ⊥) → 4294967296 ≤ m

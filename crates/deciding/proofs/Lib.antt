@@ -1,2 +1,4 @@
 pub mod Meaning
 pub mod Indexes
+pub mod Picked
+pub mod Accessed

@@ -1,20 +1,15 @@
 -- A record says what its number stands for.
-use Rattle.std.proofs.Common.{◌≡◌, ℕ, suc, true, List, [], ◌∷◌, ◌++◌, Some, refl, sym, subst, ap, ◌∙◌, arith}
-use Rattle.std.specs.List.{slice_get}
-use Rattle.text.specs.Utf16.{Text}
-use Rattle.text.specs.Stored.{stored, Stores}
-use Rattle.tree.specs.declared.node.UnaryOperator.{UnaryOperator}
-use Rattle.tree.specs.declared.node.BinaryOperator.{BinaryOperator}
-use Rattle.tree.specs.declared.node.FirstChild.{FirstChild}
+use Rattle.std.proofs.Common.{◌≡◌, ℕ, suc, List, [], ◌∷◌, refl, subst}
+use Rattle.text.specs.Stored.{Stores}
 use Rattle.tree.specs.declared.node.Node.{Node}
 use Rattle.tree.specs.declared.node.Node.TheVariants.{String, Number, Boolean, Null, Name, Hole, Spread, Array, StaticMember, ComputedMember, Call, Template, Quasi, Unary, Binary, Opaque}
-use Rattle.tree.specs.Tree.{Own, Tree, Trees, tree, none, more, label, labels, own_of, below, Denotes, DenoteAll}
-use Rattle.tree.specs.Heap.{Held, look, own, children, text_at, entries_at}
+use Rattle.tree.specs.Tree.{Own, label, labels, own_of, below, Denotes, DenoteAll}
+use Rattle.tree.specs.Heap.{Held, look, own, children}
 use Rattle.tree.specs.Lawful.{LawfulTree, LawfulBelow}
 use Rattle.meaning.specs.Expression.{Expression, Elements, Arguments, Pieces, Children, Units, Quasi as QuasiNode}
-use Rattle.meaning.specs.Trees.{tree_of, element_trees, argument_trees, quasi_tree}
+use Rattle.meaning.specs.Trees.{tree_of, element_trees, argument_trees}
 use Rattle.meaning.specs.Parts.{Part, part_tree}
-use Rattle.meaning.specs.Payoffs.{Spelled, SpelledElements, SpelledArguments}
+use Rattle.meaning.specs.Payoffs.{SpelledElements, SpelledArguments}
 use Rattle.deciding.specs.Standing.{SpelledPart, Stands, AllStand, element_parts, argument_parts}
 use Rattle.deciding.specs.Meant.{Meant}
 

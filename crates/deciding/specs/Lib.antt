@@ -2,3 +2,4 @@ pub mod Standing
 pub mod Meant
 pub mod Plans
 pub mod Index
+pub mod Picking

@@ -6,6 +6,8 @@
 mod integer_index;
 mod place;
 mod plan;
+mod property_access;
 
 pub use place::{Place, Support};
 pub use plan::{Calls, Decision, Exponent, Plan};
+pub use property_access::property;
