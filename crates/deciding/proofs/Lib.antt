@@ -2,3 +2,5 @@ pub mod Meaning
 pub mod Indexes
 pub mod Picked
 pub mod Accessed
+pub mod Walks
+pub mod Interleaves

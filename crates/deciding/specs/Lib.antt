@@ -3,3 +3,4 @@ pub mod Meant
 pub mod Plans
 pub mod Index
 pub mod Picking
+pub mod Arguments

@@ -4,6 +4,7 @@
 #![tactic(auto)]
 
 mod integer_index;
+mod arguments;
 mod place;
 mod plan;
 mod property_access;
