@@ -4,3 +4,5 @@ pub mod Picked
 pub mod Accessed
 pub mod Walks
 pub mod Interleaves
+pub mod Records
+pub mod Counts
