@@ -1,8 +1,6 @@
 -- What is counted of the records is what the rules count of the arguments.
-use Rattle.std.proofs.Common.{◌≡◌, ℕ, suc, ◌+◌, Bool, true, false, cond, not, ◌||◌, List, [], ◌∷◌, length, Some, None, Option, refl, sym, subst, ap, ap₂, ◌∙◌, arith}
-use Rattle.std.specs.List.{slice_get}
-use Rattle.std.specs.Prelude.{count_by, take_while}
-use Rattle.std.specs.Option.{option_map_or}
+use Rattle.std.proofs.Common.{◌≡◌, ℕ, suc, ◌+◌, Bool, true, false, cond, not, List, [], ◌∷◌, length, Some, None, Option, refl, sym, subst, ap, ap₂, ◌∙◌, arith}
+use Rattle.std.specs.Prelude.{take_while}
 use Rattle.std.proofs.lemmas.List.Sums.{sum_by-cons, take_while-cons}
 use Rattle.tree.specs.declared.node.Node.{Node}
 use Rattle.tree.specs.declared.node.Node.TheVariants.{String, Number, Boolean, Null, Name, Hole, Spread, Array, StaticMember, ComputedMember, Call, Template, Quasi, Unary, Binary, Opaque}
@@ -11,7 +9,7 @@ use Rattle.meaning.specs.Expression.{Expression, Arguments, Units}
 use Rattle.meaning.specs.Parts.{Part}
 use Rattle.rules.specs.Building.{text_of}
 use Rattle.rules.specs.Interleaves.{argument_count, string_count, expression_count, one_if_text, one_unless_text}
-use Rattle.rules.specs.Interleaving.{no_spread, none_left}
+use Rattle.rules.specs.Interleaving.{no_spread}
 use Rattle.rules.specs.Taking.{Leading, leading, taken_count, taken_count_with}
 use Rattle.deciding.specs.Standing.{Stands, AllStand, argument_parts}
 use Rattle.deciding.specs.Meant.{Meant}

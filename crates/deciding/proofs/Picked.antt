@@ -20,10 +20,11 @@ use Rattle.meaning.specs.Parts.{Part, part_tree}
 use Rattle.rules.specs.Property.{void_zero, unit_or_void, element_at}
 use Rattle.deciding.specs.declared.plan.Plan.{Plan}
 use Rattle.deciding.specs.declared.plan.Plan.TheVariants.{Existing, VoidZero}
+use Rattle.deciding.specs.Arguments.{is_spread, stored_at}
 use Rattle.deciding.specs.Meant.{Meant}
 use Rattle.deciding.specs.Standing.{Stands, AllStand, element_parts}
 use Rattle.deciding.proofs.Meaning.{meant}
-use Rattle.deciding.specs.Picking.{PlanIf, UnitAt, ElementAt, read_at, is_spread, spread_at}
+use Rattle.deciding.specs.Picking.{PlanIf, UnitAt, ElementAt, read_at}
 
 -- ---- a unit
 
@@ -99,7 +100,7 @@ spread_own r bytes = by r ∙ ap is_spread_sort (sym (any_text r bytes))
     by r = refl
 
 -- A part is a spread where its record is one.
-spread_stands : (h : Held) (n : ℕ) (p : Part) → Stands h n p → spread_at h n ≡ is_spread_sort (sort_of (own_of (part_tree p)))
+spread_stands : (h : Held) (n : ℕ) (p : Part) → Stands h n p → stored_at is_spread h n ≡ is_spread_sort (sort_of (own_of (part_tree p)))
 spread_stands h n p s =
     let r = record_of h n p s in
     ap (λ z. option_map_or is_spread z false) r.1 ∙ spread_own r.0 h.text ∙ ap (λ z. is_spread_sort (sort_of z)) r.2
@@ -119,10 +120,10 @@ sort_expression (Expression.unary l o x) = refl
 sort_expression (Expression.binary l o x y) = refl
 sort_expression (Expression.opaque l f m xs) = refl
 
-not_spread : (h : Held) (n : ℕ) (x : Expression) → Stands h n (Part.expression x) → spread_at h n ≡ false
+not_spread : (h : Held) (n : ℕ) (x : Expression) → Stands h n (Part.expression x) → stored_at is_spread h n ≡ false
 not_spread h n x s = spread_stands h n (Part.expression x) s ∙ ap is_spread_sort (sort_expression x)
 
-hole_no_spread : (h : Held) (n l : ℕ) → Stands h n (Part.hole l) → spread_at h n ≡ false
+hole_no_spread : (h : Held) (n l : ℕ) → Stands h n (Part.hole l) → stored_at is_spread h n ≡ false
 hole_no_spread h n l s = spread_stands h n (Part.hole l) s
 
 true_false : {A : Type 0} → true ≡ false → A
@@ -148,16 +149,16 @@ module _ (h : Held) (next : ℕ) where
       not_less : (k m : ℕ) → false ≡ nat_lt k m → m ≤ k
       not_less k m e = grind (arith, nat_tests)
 
-  behind_spread : (xs : Elements) (ns : List ℕ) (k : ℕ) → AllStand h ns (element_parts xs) → true ≡ list_any (spread_at h) (take k ns) → element_at next xs k ≡ None
+  behind_spread : (xs : Elements) (ns : List ℕ) (k : ℕ) → AllStand h ns (element_parts xs) → true ≡ list_any (stored_at is_spread h) (take k ns) → element_at next xs k ≡ None
   unfolding element_parts element_at
   behind_spread Elements.no_elements ns k a e = refl
   behind_spread (Elements.spread m x xs) ns k a e = refl
   behind_spread (Elements.item x xs) [] k a e = absurd a
   behind_spread (Elements.item x xs) (n ∷ ns) zero a e = true_false e
-  behind_spread (Elements.item x xs) (n ∷ ns) (suc k) a e = behind_spread xs ns k a.1 (e ∙ ap (λ b. b || list_any (spread_at h) (take k ns)) (not_spread h n x a.0))
+  behind_spread (Elements.item x xs) (n ∷ ns) (suc k) a e = behind_spread xs ns k a.1 (e ∙ ap (λ b. b || list_any (stored_at is_spread h) (take k ns)) (not_spread h n x a.0))
   behind_spread (Elements.hole m xs) [] k a e = absurd a
   behind_spread (Elements.hole m xs) (n ∷ ns) zero a e = true_false e
-  behind_spread (Elements.hole m xs) (n ∷ ns) (suc k) a e = behind_spread xs ns k a.1 (e ∙ ap (λ b. b || list_any (spread_at h) (take k ns)) (hole_no_spread h n m a.0))
+  behind_spread (Elements.hole m xs) (n ∷ ns) (suc k) a e = behind_spread xs ns k a.1 (e ∙ ap (λ b. b || list_any (stored_at is_spread h) (take k ns)) (hole_no_spread h n m a.0))
 
   no_plan : (o : Option Expression) → o ≡ None → PlanIf h next o None
   no_plan o e = subst (λ z. PlanIf h next z None) (sym e) tt
@@ -165,7 +166,7 @@ module _ (h : Held) (next : ℕ) where
   pub past_planned : (xs : Elements) (ns : List ℕ) (k : ℕ) → AllStand h ns (element_parts xs) → false ≡ nat_lt k (length ns) → PlanIf h next (element_at next xs k) None
   past_planned xs ns k a e = no_plan (element_at next xs k) (past_elements xs ns k a e)
 
-  pub behind_planned : (xs : Elements) (ns : List ℕ) (k : ℕ) → AllStand h ns (element_parts xs) → true ≡ list_any (spread_at h) (take k ns) → PlanIf h next (element_at next xs k) None
+  pub behind_planned : (xs : Elements) (ns : List ℕ) (k : ℕ) → AllStand h ns (element_parts xs) → true ≡ list_any (stored_at is_spread h) (take k ns) → PlanIf h next (element_at next xs k) None
   behind_planned xs ns k a e = no_plan (element_at next xs k) (behind_spread xs ns k a e)
 
   -- What is there, by its sort.
@@ -175,23 +176,23 @@ module _ (h : Held) (next : ℕ) where
   planned n IsSpread = None
   planned n IsQuasi = None
 
-  element_there : (xs : Elements) (ns : List ℕ) (k d : ℕ) → AllStand h ns (element_parts xs) → false ≡ list_any (spread_at h) (take k ns) → k < length ns
+  element_there : (xs : Elements) (ns : List ℕ) (k d : ℕ) → AllStand h ns (element_parts xs) → false ≡ list_any (stored_at is_spread h) (take k ns) → k < length ns
       → (p : Part) × Stands h (slice_index_or ns k d) p × PlanIf h next (element_at next xs k) (planned (slice_index_or ns k d) (sort_of (own_of (part_tree p))))
   unfolding element_parts element_at
   element_there Elements.no_elements [] k d a e l = absurd (omega arith)
   element_there Elements.no_elements (n ∷ ns) k d a e l = absurd a
   element_there (Elements.spread m x xs) [] k d a e l = absurd a
   element_there (Elements.spread m x xs) (n ∷ ns) zero d a e l = (Part.spread m x, a.0, tt)
-  element_there (Elements.spread m x xs) (n ∷ ns) (suc k) d a e l = true_false (sym (e ∙ ap (λ b. b || list_any (spread_at h) (take k ns)) (spread_stands h n (Part.spread m x) a.0)))
+  element_there (Elements.spread m x xs) (n ∷ ns) (suc k) d a e l = true_false (sym (e ∙ ap (λ b. b || list_any (stored_at is_spread h) (take k ns)) (spread_stands h n (Part.spread m x) a.0)))
   element_there (Elements.item x xs) [] k d a e l = absurd a
   element_there (Elements.item x xs) (n ∷ ns) zero d a e l = (Part.expression x, a.0, subst (λ z. PlanIf h next (Some x) (planned n z)) (sym (sort_expression x)) a.0)
-  element_there (Elements.item x xs) (n ∷ ns) (suc k) d a e l = element_there xs ns k d a.1 (e ∙ ap (λ b. b || list_any (spread_at h) (take k ns)) (not_spread h n x a.0)) (omega arith)
+  element_there (Elements.item x xs) (n ∷ ns) (suc k) d a e l = element_there xs ns k d a.1 (e ∙ ap (λ b. b || list_any (stored_at is_spread h) (take k ns)) (not_spread h n x a.0)) (omega arith)
   element_there (Elements.hole m xs) [] k d a e l = absurd a
   element_there (Elements.hole m xs) (n ∷ ns) zero d a e l = (Part.hole m, a.0, refl)
-  element_there (Elements.hole m xs) (n ∷ ns) (suc k) d a e l = element_there xs ns k d a.1 (e ∙ ap (λ b. b || list_any (spread_at h) (take k ns)) (hole_no_spread h n m a.0)) (omega arith)
+  element_there (Elements.hole m xs) (n ∷ ns) (suc k) d a e l = element_there xs ns k d a.1 (e ∙ ap (λ b. b || list_any (stored_at is_spread h) (take k ns)) (hole_no_spread h n m a.0)) (omega arith)
 
   -- The record there has that sort.
-  pub element_planned : (xs : Elements) (ns : List ℕ) (k n d : ℕ) (r : Node) (s : Sort) → AllStand h ns (element_parts xs) → false ≡ list_any (spread_at h) (take k ns)
+  pub element_planned : (xs : Elements) (ns : List ℕ) (k n d : ℕ) (r : Node) (s : Sort) → AllStand h ns (element_parts xs) → false ≡ list_any (stored_at is_spread h) (take k ns)
       → true ≡ nat_lt k (length ns) → n ≡ slice_index_or ns k d → Some r ≡ slice_get h.nodes n → s ≡ sort_of_node r → PlanIf h next (element_at next xs k) (planned n s)
   element_planned xs ns k n d r s a e l f g i =
       let t = element_there xs ns k d a e (is_less k (length ns) l) in
@@ -207,14 +208,14 @@ module _ (h : Held) (next : ℕ) where
       some_same : {a b : Node} → Some a ≡ Some b → a ≡ b
       some_same e = cc
 
-  pub none_planned : (xs : Elements) (ns : List ℕ) (k n d : ℕ) (r : Node) (s : Sort) → AllStand h ns (element_parts xs) → false ≡ list_any (spread_at h) (take k ns)
+  pub none_planned : (xs : Elements) (ns : List ℕ) (k n d : ℕ) (r : Node) (s : Sort) → AllStand h ns (element_parts xs) → false ≡ list_any (stored_at is_spread h) (take k ns)
       → true ≡ nat_lt k (length ns) → n ≡ slice_index_or ns k d → Some r ≡ slice_get h.nodes n → s ≡ sort_of_node r → (s ≡ IsSpread) ⊎ (s ≡ IsQuasi)
       → PlanIf h next (element_at next xs k) None
   none_planned xs ns k n d r s a e l f g i h2 =
       let there = element_planned xs ns k n d r s a e l f g i in
       ⊎_elim (λ q. subst (λ z. PlanIf h next (element_at next xs k) (planned n z)) q there) (λ q. subst (λ z. PlanIf h next (element_at next xs k) (planned n z)) q there) h2
 
-  pub node_there : {A : Type 0} (xs : Elements) (ns : List ℕ) (k n d : ℕ) → AllStand h ns (element_parts xs) → false ≡ list_any (spread_at h) (take k ns) → true ≡ nat_lt k (length ns)
+  pub node_there : {A : Type 0} (xs : Elements) (ns : List ℕ) (k n d : ℕ) → AllStand h ns (element_parts xs) → false ≡ list_any (stored_at is_spread h) (take k ns) → true ≡ nat_lt k (length ns)
       → n ≡ slice_index_or ns k d → None ≡ slice_get h.nodes n → A
   node_there xs ns k n d a e l f g =
       let t = element_there xs ns k d a e (is_less k (length ns) l) in

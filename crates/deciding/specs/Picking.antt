@@ -1,9 +1,5 @@
 -- What is planned of a literal at an index.
-use Rattle.std.specs.Prelude.{ℕ, Bool, true, false, List, Some, None, Option}
-use Rattle.std.specs.List.{slice_get}
-use Rattle.std.specs.Option.{option_map_or}
-use Rattle.tree.specs.declared.node.Node.{Node}
-use Rattle.tree.specs.declared.node.Node.TheVariants.{Spread}
+use Rattle.std.specs.Prelude.{ℕ, List, Some, None, Option}
 use Rattle.text.specs.Stored.{Stores}
 use Rattle.tree.specs.Heap.{Held}
 use Rattle.meaning.specs.Expression.{Expression, Elements, Units}
@@ -25,14 +21,6 @@ unfoldable pub read_at : ℕ → Expression → ℕ → Option Expression
 read_at next (Expression.string l u) k = Some (unit_or_void next u k)
 read_at next (Expression.array l xs) k = element_at next xs k
 read_at next o k = None
-
--- What is stored at the number is a spread. ECMA-262, "Array Initializer", SpreadElement.
-abbrev pub is_spread : Node → Bool
-is_spread (Spread n) = true
-is_spread r = false
-
-abbrev pub spread_at : Held → ℕ → Bool
-spread_at h n = option_map_or is_spread (slice_get h.nodes n) false
 
 abbrev pub UnitAt : List ℕ → ℕ → Option Plan → Type 0
 UnitAt text k plan = (h : Held) (next : ℕ) (u : Units) → Stores text u → PlanIf h next (Some (unit_or_void next u k)) plan

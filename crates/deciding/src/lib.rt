@@ -3,8 +3,8 @@
 
 #![tactic(auto)]
 
-mod integer_index;
 mod arguments;
+mod integer_index;
 mod place;
 mod plan;
 mod property_access;

@@ -1,12 +1,12 @@
 // Reading a string or an array literal at an index.
-ghost use Rattle.std.specs.Prelude.{◌≡◌, length};
-ghost use Rattle.std.specs.List.{list_any};
+ghost use Rattle.std.specs.Prelude.{length};
 ghost use Rattle.store.specs.Stores.{held_of};
 ghost use Rattle.rules.specs.Deciding.{decided};
 ghost use Rattle.rules.specs.Property.{property_rule};
 ghost use Rattle.deciding.specs.Plans.{DecidesOf, role_of};
-ghost use Rattle.deciding.specs.Picking.{ReadAt, UnitAt, ElementAt, spread_at};
+ghost use Rattle.deciding.specs.Picking.{ReadAt, UnitAt, ElementAt};
 
+use super::arguments::has_spread;
 use super::integer_index::to_integer_index;
 use super::place::Place;
 use super::plan::{Decision, Plan};
@@ -99,16 +99,4 @@ fn element(stores: &Stores<'_>, elements: &[u32], index: u32) -> Option<Plan>
         Sort::IsHole => Some(Plan::VoidZero),
         Sort::IsSpread | Sort::IsQuasi => None,
     }
-}
-
-fn has_spread(stores: &Stores<'_>, elements: &[u32]) -> bool
-    ensures { result ≡ list_any (spread_at (held_of stores.now)) elements.now }
-{
-    elements.iter().any(|&element| is_spread(stores, element))
-}
-
-fn is_spread(stores: &Stores<'_>, node: u32) -> bool
-    ensures { result ≡ spread_at (held_of stores.now) node }
-{
-    matches!(stores.node(node), Some(Node::Spread(_)))
 }
