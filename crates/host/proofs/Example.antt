@@ -3,8 +3,8 @@ use Rattle.std.proofs.Common.{◌≡◌, ℕ, zero, suc, Bool, true, false, List
 use Rattle.std.specs.Prelude.{All, ◌↔◌, slice_index_or}
 use lib.Utf8.{encode}
 use Rattle.text.specs.Stored.{stored}
-use Rattle.meaning.specs.Expression.{Units}
-use Rattle.meaning.specs.Value.{Value, Slots}
+use Rattle.meaning.specs.Expression.{Expression, Units}
+use Rattle.meaning.specs.Value.{Primitive, Value, Slots}
 use Rattle.meaning.specs.World.{ValueIn, Result, Ending, ◌>>=◌}
 use Rattle.meaning.specs.Coercion.{to_primitive, primitive_text, to_text, primitive_numeric, to_numeric, only_number, to_number}
 use Rattle.meaning.specs.Methods.{concat_name, pow_name, of_name, coercible, texts_joined, text_concat_result, slots_added, spread_slots, slots_joined, array_concat_result, pow_result, array_of_result, unit_at, slot_at}
@@ -14,10 +14,12 @@ use Rattle.meaning.specs.Runs.{Calm, mean}
 use Rattle.meaning.specs.Parts.{Part}
 use Rattle.meaning.specs.PlainWorld.{Thing, PlainSlots, methods_world, plain, text_property, array_property, whole_key}
 use Rattle.host.specs.declared.value_type.ValueType.TheVariants.{Object, String}
-use Rattle.host.specs.Truth.{OfType, HasType, ReadsAsOwn}
+use Rattle.host.specs.Truth.{OfType, HasType, ReadsAsOwn, Truthful}
 use Rattle.host.specs.Structural.{own_names, is_among, is_own_name, structural_answers}
+use Rattle.host.specs.Answers.{Question}
+use Rattle.host.specs.Table.{table_answers}
 use Rattle.host.specs.QuietWorld.{quiet}
-use Rattle.host.specs.Laws.{Complete, math_name, a_text, math_and_text, TheHypothesesCanBeMet}
+use Rattle.host.specs.Laws.{Complete, math_name, a_text, math_and_text, three_rows, TheHypothesesCanBeMet}
 use Rattle.host.proofs.Knowing.{false_true}
 
 all_bound : Complete plain own_names
@@ -99,6 +101,11 @@ array_typed : HasType quiet Object (Part.expression math_and_text)
 unfolding mean
 array_typed s v t (Watched.freely (Then.goes d Returns.returns)) = tt
 
+-- The node 0 of another payoff is null, which is no object.
+other_payoff : Truthful quiet (table_answers three_rows) → ⊥
+unfolding mean
+other_payoff h = h (Question.value_type (Part.expression (Expression.null 0))) 0 (Value.primitive Primitive.null) 0 (Watched.freely Returns.returns)
+
 pub met : TheHypothesesCanBeMet
 met = record {
   complete_in_plain = plain_complete;
@@ -112,4 +119,5 @@ met = record {
   true_of_name = record { effects = λ e s. (_, name_calm s); value_type = name_typed; global = λ e. (_, _, refl, λ s. refl) };
   true_of_text = record { effects = λ e. text_calm; value_type = text_typed; global = λ e. false_true e };
   true_of_array = record { effects = λ e. array_calm; value_type = array_typed; global = λ e. false_true e };
+  true_of_its_payoff_alone = other_payoff;
 }

@@ -9,7 +9,8 @@ use Rattle.meaning.specs.Parts.{Part, part_tree}
 use Rattle.host.specs.declared.row.Row.{Row}
 use Rattle.host.specs.Row.{row_of, silent_row}
 use Rattle.host.specs.Table.{row_at, table_answers}
-use Rattle.host.specs.Laws.{TrueRow, TrueOf, HasEntry, ATableIsTrueWhereItsEntriesAre}
+use Rattle.host.specs.Truth.{TrueOf}
+use Rattle.host.specs.Laws.{TrueRow, HasEntry, ATableIsTrueWhereItsEntriesAre}
 use Rattle.host.proofs.Knowing.{false_true, any_part}
 
 -- What silence says is true.

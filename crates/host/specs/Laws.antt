@@ -10,8 +10,7 @@ use Rattle.meaning.specs.Parts.{Part, part_tree}
 use Rattle.meaning.specs.PlainWorld.{plain}
 use Rattle.host.specs.declared.value_type.ValueType.TheVariants.{Object, String}
 use Rattle.host.specs.declared.row.Row.{Row}
-use Rattle.host.specs.Answers.{Answers, Question}
-use Rattle.host.specs.Truth.{WithoutEffects, HasType, ReadsAsOwn, IsTheLanguagesOwn, TrueAnswer, Truthful}
+use Rattle.host.specs.Truth.{WithoutEffects, HasType, ReadsAsOwn, IsTheLanguagesOwn, TrueOf, Truthful}
 use Rattle.host.specs.Silent.{silent_answers}
 use Rattle.host.specs.Structural.{own_names, is_among, structural_answers}
 use Rattle.host.specs.Row.{row_of}
@@ -40,10 +39,6 @@ pub record TrueRow (w : World) (r : Row) (p : Part) : Type 0 where
 -- The node n was loaded, and its byte spells the row r.
 abbrev pub HasEntry : (rows : List ℕ) (loaded n : ℕ) → Row → Type 0
 HasEntry rows loaded n r = (n < loaded) × (option_and_then row_of (slice_get rows n) ≡ Some r)
-
--- All that a host says of a part is true.
-abbrev pub TrueOf : World → Answers → Part → Type 0
-TrueOf w a p = TrueAnswer w a (Question.effects p) × TrueAnswer w a (Question.value_type p) × TrueAnswer w a (Question.global p)
 
 -- A table says only what is true of each part whose entry, if it has one, is true; and of each part past the loaded
 -- nodes.
@@ -84,3 +79,5 @@ pub record TheHypothesesCanBeMet : Type 0 where
   pub true_of_name : TrueRow quiet (row_at three_rows 0) (Part.expression math_name)
   pub true_of_text : TrueRow quiet (row_at three_rows 1) (Part.expression a_text)
   pub true_of_array : TrueRow quiet (row_at three_rows 2) (Part.expression math_and_text)
+  -- A table goes by numbers: it is true of the nodes of its payoff, and not of each part that may have such a number.
+  pub true_of_its_payoff_alone : Truthful quiet (table_answers three_rows) → ⊥

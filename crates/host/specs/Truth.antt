@@ -72,6 +72,10 @@ module _ (w : World) where
   TrueAnswer a (Question.value_type p) = HasType (a.value_type p) p
   TrueAnswer a (Question.global p) = a.global p ≡ true → IsTheLanguagesOwn p
 
+  -- All that a host says of a part is true. (No section.)
+  abbrev pub TrueOf : Answers → Part → Type 0
+  TrueOf a p = TrueAnswer a (Question.effects p) × TrueAnswer a (Question.value_type p) × TrueAnswer a (Question.global p)
+
   -- A host says only what is true. (No section.)
   abbrev pub Truthful : Answers → Type 0
   Truthful a = (q : Question) → TrueAnswer a q
