@@ -4,4 +4,5 @@ pub mod Example
 pub mod Knowing
 pub mod Named
 pub mod Shaped
+pub mod Staying
 pub mod Tabled

@@ -6,8 +6,10 @@ use Rattle.tree.specs.Tree.{label}
 use Rattle.meaning.specs.Expression.{Expression, Elements}
 use Rattle.meaning.specs.World.{World}
 use Rattle.meaning.specs.Premises.{Premises}
+use Rattle.meaning.specs.Replacing.{Keeps}
 use Rattle.meaning.specs.Parts.{Part, part_tree}
 use Rattle.meaning.specs.PlainWorld.{plain}
+use Rattle.host.specs.declared.value_type.ValueType.{ValueType}
 use Rattle.host.specs.declared.value_type.ValueType.TheVariants.{Object, String}
 use Rattle.host.specs.declared.row.Row.{Row}
 use Rattle.host.specs.Truth.{WithoutEffects, HasType, ReadsAsOwn, IsTheLanguagesOwn, TrueOf, Truthful}
@@ -47,6 +49,15 @@ ATableIsTrueWhereItsEntriesAre w =
     (rows : List ℕ) (loaded : ℕ) (p : Part)
     → (((r : Row) → HasEntry rows loaded (label (part_tree p)) r → TrueRow w r p) → TrueOf w (table_answers (take loaded rows)) p)
     × (loaded ≤ label (part_tree p) → TrueOf w (table_answers (take loaded rows)) p)
+
+-- Where an expression becomes another with the same runs, and what was calm stays calm, what was true of it stays true:
+-- that it has no effects, as it stands or spread, and of which type its values are.
+abbrev pub WhatIsTrueStaysTrue : World → Type 0
+WhatIsTrueStaysTrue w =
+    (x y : Expression) → Keeps w x y
+    → (WithoutEffects w (Part.expression x) → WithoutEffects w (Part.expression y))
+    × ((l : ℕ) → WithoutEffects w (Part.spread l x) → WithoutEffects w (Part.spread l y))
+    × ((k : ValueType) → HasType w k (Part.expression x) → HasType w k (Part.expression y))
 
 -- The payoff [Math, "a"], its nodes, and a row for each: Math is a global name, nothing has effects, and the values are
 -- objects and a text.

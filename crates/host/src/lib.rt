@@ -14,7 +14,7 @@ mod value_type;
 pub use host::Host;
 pub use laws::{
     a_table_is_true_where_its_entries_are, the_hypotheses_can_be_met, the_silent_host_is_true,
-    the_structural_host_is_true,
+    the_structural_host_is_true, what_is_true_stays_true,
 };
 pub use row::Row;
 pub use silent::Silent;
