@@ -6,3 +6,7 @@ pub mod Walks
 pub mod Interleaves
 pub mod Records
 pub mod Counts
+pub mod Names
+pub mod Callees
+pub mod Folding
+pub mod Objects

@@ -1,5 +1,5 @@
 -- The record at a number that stands for a part.
-use Rattle.std.proofs.Common.{◌≡◌, ℕ, Bool, true, false, cond, List, Some, None, Option, refl, sym, ap, ◌∙◌}
+use Rattle.std.proofs.Common.{◌≡◌, ℕ, Bool, true, false, cond, List, Some, None, Option, refl, sym, ap, subst, ◌∙◌}
 use Rattle.std.specs.List.{slice_get}
 use Rattle.tree.specs.declared.node.Node.{Node}
 use Rattle.tree.specs.Tree.{Own, Look, Tree, tree, label, labels, own_of, below, Denotes}
@@ -14,6 +14,7 @@ pub record Recorded (h : Held) (n : ℕ) (p : Part) : Type 0 where
   pub node : Node
   pub there : slice_get h.nodes n ≡ Some node
   pub within : inside h.entries h.text node ≡ true
+  pub owned : own_of (part_tree p) ≡ own h.text node
   pub says : Meant h node p
 
 top : (h : Look) (t : Tree) → Denotes h t → h (label t) ≡ Some (own_of t, labels (below t))
@@ -42,4 +43,19 @@ opened es bytes (Some r) w cs e = opened_if es bytes r w cs (inside es bytes r) 
 pub recorded : (h : Held) (n : ℕ) (p : Part) → Stands h n p → Recorded h n p
 recorded h n p s =
     let o = opened h.entries h.text (slice_get h.nodes n) (own_of (part_tree p)) (labels (below (part_tree p))) (ap (look h) (sym s.numbered) ∙ top (look h) (part_tree p) s.denoted) in
-    record { node = o.node; there = o.there; within = o.within; says = meant h n o.node p s o.owned o.linked }
+    record { node = o.node; there = o.there; within = o.within; owned = o.owned; says = meant h n o.node p s o.owned o.linked }
+
+-- What was read there says so.
+pub record Read (h : Held) (r : Node) (p : Part) : Type 0 where
+  pub within : inside h.entries h.text r ≡ true
+  pub owned : own_of (part_tree p) ≡ own h.text r
+  pub says : Meant h r p
+
+pub read_there : {h : Held} {n : ℕ} {p : Part} {o : Option Node} {r : Node} → Stands h n p → o ≡ slice_get h.nodes n → o ≡ Some r → Read h r p
+read_there {h} {n} {p} {o} {r} s e f =
+    let t = recorded h n p s in
+    let same : t.node ≡ r = some_same (sym t.there ∙ sym e ∙ f) in
+    subst (λ q. Read h q p) same (record { within = t.within; owned = t.owned; says = t.says })
+
+pub not_missing : {A : Type 0} {h : Held} {n : ℕ} {p : Part} {o : Option Node} → Stands h n p → o ≡ slice_get h.nodes n → o ≡ None → A
+not_missing {h = h} {n = n} {p = p} s e f = let t = recorded h n p s in absurd (cc (t.there, e, f))

@@ -26,7 +26,7 @@ pub record AtHead (h : Held) (ns : List ℕ) (k : ℕ) (xs : Arguments) : Type 0
 false_true : {A : Type 0} → false ≡ true → A
 false_true e = absurd (cc)
 
-none_behind : (h : Held) (ns : List ℕ) (xs : Arguments) → AllStand h ns (argument_parts xs) → length ns ≤ 0 → xs ≡ Arguments.no_arguments
+pub none_behind : (h : Held) (ns : List ℕ) (xs : Arguments) → AllStand h ns (argument_parts xs) → length ns ≤ 0 → xs ≡ Arguments.no_arguments
 unfolding argument_parts
 none_behind h [] Arguments.no_arguments s e = refl
 none_behind h (n ∷ ns) Arguments.no_arguments s e = absurd s
@@ -35,7 +35,7 @@ none_behind h (n ∷ ns) (Arguments.argument x xs) s e = absurd (omega arith)
 none_behind h [] (Arguments.spread_argument l x xs) s e = absurd s
 none_behind h (n ∷ ns) (Arguments.spread_argument l x xs) s e = absurd (omega arith)
 
-more_behind : (h : Held) (ns : List ℕ) (xs : Arguments) → AllStand h ns (argument_parts xs) → 0 < length ns → none_left xs ≡ false
+pub more_behind : (h : Held) (ns : List ℕ) (xs : Arguments) → AllStand h ns (argument_parts xs) → 0 < length ns → none_left xs ≡ false
 unfolding argument_parts none_left
 more_behind h [] Arguments.no_arguments s e = absurd (omega arith)
 more_behind h (n ∷ ns) Arguments.no_arguments s e = absurd s

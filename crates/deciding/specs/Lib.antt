@@ -4,3 +4,4 @@ pub mod Plans
 pub mod Index
 pub mod Picking
 pub mod Arguments
+pub mod Method

@@ -8,7 +8,7 @@ use Rattle.meaning.specs.Expression.{Expression, Elements, Arguments, Units}
 use Rattle.meaning.specs.Parts.{Part}
 use Rattle.rules.specs.Deciding.{Role, Settings}
 use Rattle.rules.specs.Building.{elements_of, append_elements, joined}
-use Rattle.rules.specs.Taking.{taken}
+use Rattle.rules.specs.Taking.{taken, left, taken_count}
 use Rattle.rules.specs.Method.{with_object}
 use Rattle.rules.specs.Property.{void_zero}
 use Rattle.rules.specs.Chain.{Chain, chain_of, flat}
@@ -46,11 +46,11 @@ PlanOf h (ArrayOf arguments) next y = (xs : Arguments) × (y ≡ Expression.arra
 PlanOf h (Merged elements leading) next y =
     (es : Elements) × (xs : Arguments) × (y ≡ Expression.array next (append_elements es (taken xs)))
     × AllStand h (entries_at h.entries elements) (element_parts es) × AllStand h (entries_at h.entries leading) (argument_parts xs)
-PlanOf h (ConcatLeft callee elements leading left) next y =
-    (g : Expression) × (es : Elements) × (xs : Arguments) × (ys : Arguments)
-    × (y ≡ Expression.call (next + 2) (with_object (next + 1) g (Expression.array next (append_elements es (taken xs)))) ys)
-    × Stands h callee (Part.expression g) × AllStand h (entries_at h.entries elements) (element_parts es)
-    × AllStand h (entries_at h.entries leading) (argument_parts xs) × AllStand h (entries_at h.entries left) (argument_parts ys)
+PlanOf h (ConcatLeft callee elements arguments count) next y =
+    (g : Expression) × (es : Elements) × (xs : Arguments)
+    × (y ≡ Expression.call (next + 2) (with_object (next + 1) g (Expression.array next (append_elements es (taken xs)))) (left xs))
+    × (count ≡ taken_count xs) × Stands h callee (Part.expression g)
+    × AllStand h (entries_at h.entries elements) (element_parts es) × AllStand h (entries_at h.entries arguments) (argument_parts xs)
 PlanOf h (OneCall callee chain) next y =
     (g : Expression) × (x : Expression) × (xss : List Arguments) × (y ≡ Expression.call next g (flat xss))
     × Stands h callee (Part.expression g) × Stands h chain (Part.expression x)

@@ -1,5 +1,5 @@
 // What is found out of the arguments of a call, each by its number.
-ghost use Rattle.std.specs.Prelude.{◌≡◌, ◌+◌, ◌-◌, ◌*◌, ◌≤◌, false, length, nat_le};
+ghost use Rattle.std.specs.Prelude.{◌≡◌, ◌+◌, ◌-◌, ◌*◌, ◌≤◌, nat_le};
 ghost use Rattle.store.specs.Stores.{held_of};
 ghost use Rattle.rules.specs.Deciding.{settled};
 ghost use Rattle.deciding.specs.Arguments.{is_spread, is_string, is_taken, stored_at, any_spread, expressions_among, leading_taken, GoesOn, InterleavesOf};
@@ -61,6 +61,13 @@ pub(crate) fn count_taken(stores: &Stores<'_>, arguments: &[u32]) -> usize
         .count()
 }
 
+// What a call of `concat`, the quotes of a string and the marks of a substitution take.
+const CALL: u128 = ".concat()".len() as u128;
+
+const QUOTES: u128 = "''".len() as u128;
+
+const SUBSTITUTION: u128 = "${}".len() as u128;
+
 // Whether a template of the arguments is no longer than that many calls: by the syntax that each adds, beside the base
 // text and what the arguments are made of.
 pub(crate) fn string_concat_prefers_template(
@@ -69,13 +76,15 @@ pub(crate) fn string_concat_prefers_template(
     call_count: usize,
 ) -> bool
     requires { expression_count ≤ argument_count }
-    ensures { result ≡ nat_le (3 * expression_count) (9 * call_count + argument_count + 2 * (argument_count - expression_count)) }
+    ensures { result
+        ≡ nat_le (3 * expression_count)
+        (9 * call_count + argument_count + 2 * (argument_count - expression_count)) }
 {
     let string_count = argument_count - expression_count;
-    let concat_overhead = 9 * call_count as u128
+    let concat_overhead = call_count as u128 * CALL
         + argument_count as u128
-        + 2 * string_count as u128;
-    let template_overhead = 3 * expression_count as u128;
+        + string_count as u128 * QUOTES;
+    let template_overhead = expression_count as u128 * SUBSTITUTION;
     template_overhead <= concat_overhead
 }
 
@@ -87,9 +96,9 @@ fn is_settled(value_type: ValueType) -> bool
     !matches!(value_type, ValueType::Object | ValueType::Undetermined)
 }
 
-// Goes over arguments, no spread among them, of which those before may coerce an object or may not, and some may follow:
-// nothing where they do not interleave, or whether one so far may coerce an object. The type of the very last one does not
-// matter.
+// Goes over arguments without a spread, before which one may coerce an object or none may, and behind which others may
+// follow: nothing where they do not interleave, and else whether one so far may coerce an object. The type of the very
+// last argument does not matter.
 pub(crate) fn interleave<H: Host>(
     stores: &Stores<'_>,
     arguments: &[u32],
@@ -97,7 +106,8 @@ pub(crate) fn interleave<H: Host>(
     is_followed: bool,
     host: &H,
 ) -> Option<bool>
-    ensures { GoesOn (H.answers host.now) (held_of stores.now) arguments.now may_coerce_object is_followed result }
+    ensures { GoesOn (H.answers host.now) (held_of stores.now) arguments.now
+        may_coerce_object is_followed result }
 {
     for (i, &argument) in arguments.iter().enumerate() {
         if may_coerce_object {
@@ -111,7 +121,7 @@ pub(crate) fn interleave<H: Host>(
     Some(may_coerce_object)
 }
 
-// Whether the arguments, no spread among them, may become the expressions of a template, which makes a text of each before
+// Whether the arguments, without a spread, may become the expressions of a template, which makes a text of each before
 // the next one runs: none with effects follows one that may be an object.
 pub(crate) fn string_concat_can_interleave<H: Host>(
     stores: &Stores<'_>,

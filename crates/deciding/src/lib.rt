@@ -5,10 +5,12 @@
 
 mod arguments;
 mod integer_index;
+mod methods;
 mod place;
 mod plan;
 mod property_access;
 
+pub use methods::method;
 pub use place::{Place, Support};
 pub use plan::{Calls, Decision, Exponent, Plan};
 pub use property_access::property;

@@ -28,12 +28,13 @@ pub enum Plan {
         elements: ListRun,
         taken: ListRun,
     },
-    // A call of `concat` on such an array, with the arguments that are left. The callee's name or key stays.
+    // A call of `concat` on such an array, of so many leading arguments, with the arguments that are left. The callee's
+    // name or key stays.
     ConcatLeft {
         callee: u32,
         elements: ListRun,
-        taken: ListRun,
-        left: ListRun,
+        arguments: ListRun,
+        taken: usize,
     },
     // One call with the arguments of all calls of a chain, on the callee of the innermost one.
     OneCall {
