@@ -7,12 +7,13 @@ use Rattle.tree.specs.Heap.{Held, entries_at, text_at}
 use Rattle.host.specs.Answers.{Answers}
 use Rattle.meaning.specs.Expression.{Expression, Elements, Arguments, Units}
 use Rattle.meaning.specs.Parts.{Part}
-use Rattle.rules.specs.Deciding.{Deciding, Settings, decided, when}
-use Rattle.rules.specs.Building.{append_elements, joined}
+use Rattle.rules.specs.Deciding.{Deciding, decided, when}
+use Rattle.rules.specs.Places.{Settings}
+use Rattle.rules.specs.Building.{append_elements, joined, with_object}
 use Rattle.rules.specs.Interleaves.{argument_count, string_count, expression_count}
 use Rattle.rules.specs.Interleaving.{no_spread, none_left, interleaving, short}
 use Rattle.rules.specs.Taking.{Leading, leading, taken, left, left_with, taken_count, taken_count_with}
-use Rattle.rules.specs.Method.{with_object, array_left, array_concat, string_concat}
+use Rattle.rules.specs.Method.{array_left, array_concat, string_concat}
 use Rattle.deciding.specs.Standing.{Stands, AllStand, argument_parts, element_parts}
 use Rattle.deciding.specs.Plans.{DecisionOf}
 use Rattle.deciding.specs.declared.plan.Decision.{Decision}

@@ -7,7 +7,8 @@ use Rattle.meaning.specs.Parts.{Part}
 use Rattle.host.specs.declared.value_type.ValueType.{ValueType}
 use Rattle.host.specs.Answers.{Answers}
 use Rattle.host.specs.Host.{Says}
-use Rattle.rules.specs.Deciding.{Deciding, decided, unless_effects, settled}
+use Rattle.rules.specs.Deciding.{Deciding, decided, unless_effects}
+use Rattle.rules.specs.Interleaves.{settled}
 use Rattle.rules.specs.Building.{append_arguments}
 use Rattle.rules.specs.Interleaving.{no_spread, none_left, interleaving, all_quiet}
 use Rattle.deciding.specs.Standing.{Stands, AllStand, argument_parts}

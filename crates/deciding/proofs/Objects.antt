@@ -17,7 +17,8 @@ use Rattle.meaning.specs.Expression.{Expression, Elements, Arguments, Units}
 use Rattle.meaning.specs.Methods.{concat_name, pow_name, of_name, math_name, array_name}
 use Rattle.meaning.specs.Trees.{tree_of}
 use Rattle.meaning.specs.Parts.{Part}
-use Rattle.rules.specs.Deciding.{Deciding, Role, Settings, decided, when, outermost, same_name}
+use Rattle.rules.specs.Deciding.{Deciding, decided, when, outermost, same_name}
+use Rattle.rules.specs.Places.{Role, Settings}
 use Rattle.rules.specs.Building.{elements_of}
 use Rattle.rules.specs.Interleaves.{argument_count}
 use Rattle.rules.specs.Interleaving.{no_spread}

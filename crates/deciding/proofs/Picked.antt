@@ -17,7 +17,8 @@ use Rattle.tree.specs.Roles.{sort_of_node}
 use Rattle.meaning.specs.Expression.{Expression, Elements, Units, Quasi as QuasiNode}
 use Rattle.meaning.specs.Trees.{tree_of}
 use Rattle.meaning.specs.Parts.{Part, part_tree}
-use Rattle.rules.specs.Property.{void_zero, unit_or_void, element_at}
+use Rattle.rules.specs.Building.{void_zero}
+use Rattle.rules.specs.Property.{unit_or_void, element_at}
 use Rattle.deciding.specs.declared.plan.Plan.{Plan}
 use Rattle.deciding.specs.declared.plan.Plan.TheVariants.{Existing, VoidZero}
 use Rattle.deciding.specs.Arguments.{is_spread, stored_at}

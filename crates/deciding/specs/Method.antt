@@ -7,7 +7,8 @@ use Rattle.tree.specs.Heap.{Held, within, entries_at, text_at}
 use Rattle.meaning.specs.Expression.{Expression, Elements, Arguments, Units}
 use Rattle.meaning.specs.Parts.{Part}
 use Rattle.host.specs.Answers.{Answers}
-use Rattle.rules.specs.Deciding.{Role, Settings, decided, same_name}
+use Rattle.rules.specs.Places.{Role, Settings}
+use Rattle.rules.specs.Deciding.{decided, same_name}
 use Rattle.rules.specs.Method.{Callee, callee_of, method_of_object, array_concat, string_concat}
 use Rattle.rules.specs.Taking.{taken_count}
 use Rattle.deciding.specs.declared.methods.KnownMethod.{KnownMethod}

@@ -6,12 +6,10 @@ use Rattle.tree.specs.declared.node.BinaryOperator.TheVariants.{Exponentiation}
 use Rattle.tree.specs.Heap.{Held, text_at, entries_at}
 use Rattle.meaning.specs.Expression.{Expression, Elements, Arguments, Units}
 use Rattle.meaning.specs.Parts.{Part}
-use Rattle.rules.specs.Deciding.{Role, Settings}
-use Rattle.rules.specs.Building.{elements_of, append_elements, joined}
+use Rattle.rules.specs.Places.{Role, Settings}
+use Rattle.rules.specs.Building.{elements_of, append_elements, joined, with_object, void_zero, flat}
 use Rattle.rules.specs.Taking.{taken, left, taken_count}
-use Rattle.rules.specs.Method.{with_object}
-use Rattle.rules.specs.Property.{void_zero}
-use Rattle.rules.specs.Chain.{Chain, chain_of, flat}
+use Rattle.rules.specs.Chain.{Chain, chain_of}
 use Rattle.deciding.specs.declared.place.Place.{Place}
 use Rattle.deciding.specs.declared.place.Place.TheVariants.{Ordinary, ConcatObject, Referred}
 use Rattle.deciding.specs.declared.place.Support.{Support}

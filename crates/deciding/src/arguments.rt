@@ -1,7 +1,7 @@
 // What is found out of the arguments of a call, each by its number.
 ghost use Rattle.std.specs.Prelude.{◌≡◌, ◌+◌, ◌-◌, ◌*◌, ◌≤◌, nat_le};
 ghost use Rattle.store.specs.Stores.{held_of};
-ghost use Rattle.rules.specs.Deciding.{settled};
+ghost use Rattle.rules.specs.Interleaves.{settled};
 ghost use Rattle.deciding.specs.Arguments.{is_spread, is_string, is_taken, stored_at, any_spread, expressions_among, leading_taken, GoesOn, InterleavesOf};
 
 use host::{Host, ValueType};
@@ -89,7 +89,7 @@ pub(crate) fn string_concat_prefers_template(
 }
 
 // Whether a value of the type is no object.
-#[tactic(auto, unfolding(rules::specs::Deciding::settled))]
+#[tactic(auto, unfolding(rules::specs::Interleaves::settled))]
 fn is_settled(value_type: ValueType) -> bool
     ensures { result ≡ settled value_type }
 {

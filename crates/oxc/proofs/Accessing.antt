@@ -5,7 +5,8 @@ use Rattle.meaning.specs.Expression.{Expression, Elements, Units}
 use Rattle.meaning.specs.Number.{Number, whole}
 use Rattle.meaning.specs.Parts.{Part}
 use Rattle.host.specs.Answers.{Answers}
-use Rattle.rules.specs.Deciding.{Deciding, Role, decided, when, unless_effects}
+use Rattle.rules.specs.Deciding.{Deciding, decided, when, unless_effects}
+use Rattle.rules.specs.Places.{Role}
 use Rattle.rules.specs.Property.{unit_or_void, element_at, without_effects, at_index, at_whole, at_key, property_read, property_rule}
 use Rattle.oxc.specs.Functions.{Made, from_unit, length_until_spread, element, fold_access, try_fold_integer_index_access, to_integer_index, at_integer_index, by_member, replace_known_property_access}
 use Rattle.oxc.specs.Laws.{SameButNumbers, Agree, TheRustAccessesAlike}

@@ -8,10 +8,12 @@ use Rattle.host.specs.Answers.{Answers}
 use Rattle.meaning.specs.Expression.{Expression, Elements, Arguments, Units}
 use Rattle.meaning.specs.Methods.{concat_name}
 use Rattle.meaning.specs.Parts.{Part}
-use Rattle.rules.specs.Deciding.{Deciding, Role, Settings, decided, when, unless_effects, settled, same_name, outermost}
-use Rattle.rules.specs.Building.{append_arguments, joined}
+use Rattle.rules.specs.Deciding.{Deciding, decided, when, unless_effects, same_name, outermost}
+use Rattle.rules.specs.Places.{Role, Settings}
+use Rattle.rules.specs.Interleaves.{settled}
+use Rattle.rules.specs.Building.{append_arguments, joined, flat}
 use Rattle.rules.specs.Interleaving.{no_spread, none_left, interleaving, short}
-use Rattle.rules.specs.Chain.{Chain, longer, called_on, chain_of, flat, each_interleaving, string_chain, is_array, all_read, all_still, calls_apart, array_chain, chained, chain_rule}
+use Rattle.rules.specs.Chain.{Chain, longer, called_on, chain_of, each_interleaving, string_chain, is_array, all_read, all_still, calls_apart, array_chain, chained, chain_rule}
 use Rattle.oxc.specs.Folding.{iter, from_iter, object_or_undetermined, interleave_from, string_concat_can_interleave, string_concat_prefers_template, expression_count, fold_string_concat}
 use Rattle.oxc.specs.Functions.{string_chain as rust_string_chain, array_chain as rust_array_chain, Made, parent_is_concat, Root, collect, collect_object, flat_map, all_can_interleave, one_call, call_count, may_be_read, any_read, any_effects, order_matters, from_root}
 use Rattle.oxc.specs.Laws.{SameButNumbers, Agree, TheRustJoinsChainsAlike}

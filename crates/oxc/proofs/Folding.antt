@@ -7,9 +7,9 @@ use Rattle.host.specs.Answers.{Answers}
 use Rattle.meaning.specs.Expression.{Expression, Arguments, Pieces, Quasi, Units}
 use Rattle.meaning.specs.Parts.{Part}
 use Rattle.meaning.specs.Numbering.{renumbered, renumbered_pieces}
-use Rattle.rules.specs.Deciding.{Deciding, decided, unless_effects, settled}
+use Rattle.rules.specs.Deciding.{Deciding, decided, unless_effects}
+use Rattle.rules.specs.Interleaves.{settled, argument_count, string_count, expression_count, one_if_text, one_unless_text}
 use Rattle.rules.specs.Building.{text_of, new_quasi, add_piece, pieces_of, template_of, joined}
-use Rattle.rules.specs.Interleaves.{argument_count, string_count, expression_count, one_if_text, one_unless_text}
 use Rattle.rules.specs.Interleaving.{none_left, all_quiet, interleaving, short}
 use Rattle.oxc.specs.Folding.{template_element, iter, object_or_undetermined, interleave_from, string_concat_can_interleave, string_concat_prefers_template, not_a_string, Folded, folded_one, folded, in_turn, assembled, fold_string_concat, expression_count as counted}
 use Rattle.oxc.specs.Laws.{SameButNumbers}

@@ -11,12 +11,13 @@ use Rattle.meaning.specs.Expression.{Expression, Elements, Arguments, Units}
 use Rattle.meaning.specs.Methods.{concat_name, pow_name, of_name, math_name, array_name}
 use Rattle.meaning.specs.Parts.{Part}
 use Rattle.meaning.specs.Numbering.{renumbered, renumbered_elements, renumbered_arguments}
-use Rattle.rules.specs.Deciding.{Deciding, Role, Settings, decided, when, outermost}
-use Rattle.rules.specs.Building.{append_elements, joined, elements_of as of_arguments}
+use Rattle.rules.specs.Deciding.{Deciding, decided, when, outermost}
+use Rattle.rules.specs.Places.{Role, Settings}
+use Rattle.rules.specs.Building.{append_elements, joined, elements_of as of_arguments, with_object}
 use Rattle.rules.specs.Interleaves.{argument_count}
 use Rattle.rules.specs.Interleaving.{no_spread, none_left, interleaving, short}
 use Rattle.rules.specs.Taking.{Leading, leading, taken, left, taken_count, taken_with, left_with, taken_count_with}
-use Rattle.rules.specs.Method.{keyed, callee_of, with_object, string_concat, array_left, array_concat, is_number, power, math_pow, array_of, global_method, method_of_object, method_called, method_rule}
+use Rattle.rules.specs.Method.{keyed, callee_of, string_concat, array_left, array_concat, is_number, power, math_pow, array_of, global_method, method_of_object, method_called, method_rule}
 use Rattle.oxc.specs.Escaping.{no_str}
 use Rattle.oxc.specs.Folding.{iter, from_iter, interleave_from, string_concat_can_interleave, string_concat_prefers_template, expression_count, fold_string_concat, object_or_undetermined}
 use Rattle.oxc.specs.Functions.{Made, parent_is_concat, is_literal, merges, merged_one, Drained, drained, with_elements, after_drain, try_fold_concat, validate_global_reference, wrapped, try_fold_pow, elements_of, try_fold_array_of, by_name, by_callee, replace_known_global_methods}

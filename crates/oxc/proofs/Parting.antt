@@ -9,12 +9,12 @@ use Rattle.meaning.specs.Acts.{Returns, Then, Asks, Watched}
 use Rattle.meaning.specs.Runs.{Runs, mean}
 use Rattle.meaning.specs.Premises.{Premises}
 use Rattle.meaning.specs.PlainWorld.{PlainSlots, methods_world, text_property, array_property, whole_key}
-use Rattle.rules.specs.Building.{elements_of, append_elements, append_arguments, text_of, new_quasi, add_piece, pieces_of, quasi_count, template_of}
+use Rattle.rules.specs.Building.{elements_of, append_elements, append_arguments, text_of, new_quasi, add_piece, pieces_of, quasi_count, template_of, flat}
 use Rattle.rules.specs.Taking.{leading, taken_with, taken, left_with, left, taken_count_with, taken_count}
-use Rattle.rules.specs.Interleaves.{argument_count, one_if_text, one_unless_text, string_count, expression_count}
+use Rattle.rules.specs.Interleaves.{argument_count, one_if_text, one_unless_text, string_count, expression_count, settled}
 use Rattle.rules.specs.Interleaving.{no_spread, none_left, all_quiet, interleaving, short}
-use Rattle.rules.specs.Deciding.{decided, asked, outermost, when, unless_effects, settled}
-use Rattle.rules.specs.Chain.{longer, called_on, chain_of, flat, each_interleaving, string_chain, is_array, all_read, all_still, calls_apart, array_chain, chained, chain_rule}
+use Rattle.rules.specs.Deciding.{decided, asked, outermost, when, unless_effects}
+use Rattle.rules.specs.Chain.{longer, called_on, chain_of, each_interleaving, string_chain, is_array, all_read, all_still, calls_apart, array_chain, chained, chain_rule}
 use Rattle.oxc.specs.Folding.{iter, from_iter, object_or_undetermined, interleave_from, string_concat_prefers_template, not_a_string, expression_count as rust_expression_count, folded_one, folded, in_turn, assembled}
 use Rattle.oxc.specs.Functions.{parent_is_concat, flat_map, all_can_interleave, may_be_read, any_read, any_effects, order_matters, from_root, is_literal, merges, merged_one, drained, with_elements, try_fold_concat, validate_global_reference, wrapped, try_fold_pow, elements_of as rust_elements_of, by_callee, replace_known_global_methods, from_unit, length_until_spread, element, fold_access, at_integer_index, by_member, replace_known_property_access, collect}
 use Rattle.oxc.specs.Parting.{counting, two_calls, two_texts, one_call as flat_call, TheRustPartsFromTheStandard}

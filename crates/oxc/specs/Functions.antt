@@ -12,7 +12,7 @@ use Rattle.meaning.specs.Parts.{Part}
 use Rattle.host.specs.declared.value_type.ValueType.{ValueType}
 use Rattle.host.specs.declared.value_type.ValueType.TheVariants.{Number}
 use Rattle.host.specs.Answers.{Answers}
-use Rattle.rules.specs.Deciding.{Settings, Role}
+use Rattle.rules.specs.Places.{Settings, Role}
 use Rattle.rules.specs.Building.{append_elements}
 use Rattle.oxc.specs.Escaping.{no_str}
 use Rattle.oxc.specs.Folding.{iter, from_iter, object_or_undetermined, string_concat_can_interleave, string_concat_prefers_template, expression_count, fold_string_concat}

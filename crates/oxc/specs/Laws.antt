@@ -6,7 +6,8 @@ use Rattle.template.specs.Escaped.{raw_of}
 use Rattle.meaning.specs.Expression.{Expression}
 use Rattle.meaning.specs.Numbering.{renumbered}
 use Rattle.host.specs.Answers.{Answers}
-use Rattle.rules.specs.Deciding.{Role, Settings, decided}
+use Rattle.rules.specs.Places.{Role, Settings}
+use Rattle.rules.specs.Deciding.{decided}
 use Rattle.rules.specs.Property.{property_rule}
 use Rattle.rules.specs.Method.{method_rule}
 use Rattle.rules.specs.Chain.{chain_rule}

@@ -8,7 +8,8 @@ use Rattle.meaning.specs.Runs.{Runs}
 use Rattle.meaning.specs.Premises.{Premises}
 use Rattle.meaning.specs.PlainWorld.{Thing, PlainValue, PlainSlots, methods_world, plain, applied}
 use Rattle.host.specs.Silent.{silent_answers}
-use Rattle.rules.specs.Deciding.{Settings, Role, decided}
+use Rattle.rules.specs.Places.{Settings, Role}
+use Rattle.rules.specs.Deciding.{decided}
 use Rattle.rules.specs.Chain.{chain_rule}
 use Rattle.oxc.specs.Functions.{Made, replace_concat_chain}
 

@@ -133,11 +133,12 @@ module _ {S : Type 0} where
   watched_gives Mode.free d = Watched.freely d
   watched_gives Mode.calm d = Watched.calmly d Still.still
 
-  unwatched : {A : Type 0} {m : Act S A} → Implies S A (Watched S A m Mode.free) m
-  unwatched s r t (Watched.freely d) = d
+  pub unwatched : {A : Type 0} {m : Act S A} (c : Mode) → Implies S A (Watched S A m c) m
+  unwatched Mode.free s r t (Watched.freely d) = d
+  unwatched Mode.calm s r t (Watched.calmly d _) = d
 
   pub freely : {A : Type 0} {m : Act S A} → Alike S A (Watched S A m Mode.free) m
-  freely = record { forth = unwatched; back = λ s r t d. Watched.freely d }
+  freely = record { forth = unwatched Mode.free; back = λ s r t d. Watched.freely d }
 
 same_over : {S A : Type 0} (b : Act S A) {v : A} {s : S} {r : Result A} {t : S} → Same S (Result A) (Result.gives v) s r t → b s (Result.gives v) s → b s r t
 same_over b Same.same d = d

@@ -12,17 +12,16 @@ use Rattle.meaning.proofs.Replacing.{Implies, then_first}
 use Rattle.meaning.proofs.Calming.{forget_arguments}
 use Rattle.meaning.proofs.Determined.{arguments_single}
 use Rattle.rules.specs.Facts.{true_in}
-use Rattle.rules.specs.Building.{append_arguments}
+use Rattle.rules.specs.Building.{append_arguments, flat}
 use Rattle.rules.specs.Interleaves.{SettledType}
-use Rattle.rules.specs.Chain.{flat}
 use Rattle.rules.specs.MethodBecomes.{Method}
 use Rattle.rules.specs.ChainBecomes.{Calls, IsArray, AllStill, MayBeReadLater, ArraysApart}
-use Rattle.rules.proofs.Alike.{◌⨾◌, turned, first, second, after, regroup, begun, ended, returns_alike, asks_settles, settles_alike, settles_then, settles_gives, watched_gives, freely}
+use Rattle.rules.proofs.Alike.{◌⨾◌, turned, first, second, after, regroup, begun, ended, returns_alike, asks_settles, settles_alike, settles_then, settles_gives, watched_gives, unwatched, freely}
 use Rattle.rules.proofs.Keeping.{AlikeActs}
 use Rattle.rules.proofs.Texts.{OneSpread, one_spread}
 use Rattle.rules.proofs.Commuting.{commute}
 use Rattle.rules.proofs.Merging.{array_run, array_call, found}
-use Rattle.rules.proofs.StringChains.{unwatched, concat_call, call_run}
+use Rattle.rules.proofs.StringChains.{concat_call, call_run}
 
 module _ (w : World) where
   -- reading them gives one result, whatever the state

@@ -7,14 +7,16 @@ use Rattle.host.specs.declared.value_type.ValueType.TheVariants.{Number}
 use Rattle.meaning.specs.Expression.{Expression, Elements, Arguments, Units}
 use Rattle.meaning.specs.Methods.{concat_name, pow_name, of_name, math_name, array_name}
 use Rattle.meaning.specs.Parts.{Part}
-use Rattle.rules.specs.Deciding.{Deciding, Role, Settings, when, same_name, outermost}
+use Rattle.rules.specs.Places.{Role, Settings, IsOutermost}
+use Rattle.rules.specs.Deciding.{Deciding, when, same_name, outermost}
 use Rattle.rules.specs.Facts.{Facts}
 use Rattle.rules.specs.Building.{append_elements}
 use Rattle.rules.specs.Interleaves.{argument_count}
 use Rattle.rules.specs.Interleaving.{none_left, short, no_spread}
-use Rattle.rules.specs.Taking.{Takes, taken, left, taken_count}
+use Rattle.rules.specs.Takes.{Takes}
+use Rattle.rules.specs.Taking.{taken, left, taken_count}
+use Rattle.rules.specs.MethodBecomes.{Method, MethodBecomes}
 use Rattle.rules.specs.Method.{Callee, keyed, callee_of, string_concat, array_left, array_concat, is_number, power, math_pow, array_of, global_method, method_of_object, method_called, method_rule}
-use Rattle.rules.specs.MethodBecomes.{Method, IsOutermost, MethodBecomes}
 use Rattle.rules.proofs.Leading.{Leads, when_leads, cond_leads}
 use Rattle.rules.proofs.Interleaved.{interleaving_leads, short_says, at_end}
 use Rattle.rules.proofs.Takings.{takes}

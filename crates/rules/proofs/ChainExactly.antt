@@ -6,13 +6,13 @@ use Rattle.std.proofs.lemmas.Bool.{cond-true}
 use Rattle.host.specs.Answers.{Answers}
 use Rattle.meaning.specs.Expression.{Expression, Elements, Arguments, Units}
 use Rattle.meaning.specs.Methods.{concat_name}
-use Rattle.rules.specs.Deciding.{Deciding, Role, Settings, decided, when, same_name, settled}
+use Rattle.rules.specs.Deciding.{Deciding, decided, when, same_name}
+use Rattle.rules.specs.Places.{Role, Settings, IsOutermost}
+use Rattle.rules.specs.Interleaves.{settled, Interleaves, Short}
 use Rattle.rules.specs.Facts.{said}
-use Rattle.rules.specs.Building.{append_arguments, joined}
-use Rattle.rules.specs.Interleaves.{Interleaves, Short}
+use Rattle.rules.specs.Building.{append_arguments, joined, flat}
 use Rattle.rules.specs.Interleaving.{no_spread, interleaving, short}
-use Rattle.rules.specs.Chain.{Chain, longer, called_on, chain_of, flat, each_interleaving, string_chain, array_chain, chained, chain_rule}
-use Rattle.rules.specs.MethodBecomes.{IsOutermost}
+use Rattle.rules.specs.Chain.{Chain, longer, called_on, chain_of, each_interleaving, string_chain, array_chain, chained, chain_rule}
 use Rattle.rules.specs.ChainBecomes.{Calls, EachInterleaves, CallCount, ChainBecomes}
 use Rattle.rules.specs.Laws.{ChainRewritesExactlyWhen}
 use Rattle.rules.proofs.Leading.{said_to, when_decided, cond_decided}
@@ -20,7 +20,7 @@ use Rattle.rules.proofs.Interleaved.{AllQuiet, short_says}
 use Rattle.rules.proofs.Together.{AnyEffects, Clashes}
 use Rattle.rules.proofs.Walking.{StringLed}
 use Rattle.rules.proofs.Chaining.{ChainLed, chain_leads}
-use Rattle.rules.proofs.MethodExactly.{outermost_exactly, short_exactly, no_spread_exactly, interleaving_decided, same_exactly}
+use Rattle.rules.proofs.ConditionsExactly.{outermost_exactly, short_exactly, no_spread_exactly, interleaving_decided, same_exactly}
 use Rattle.rules.proofs.WalkExactly.{each_decided, quiet_all, interleaving_found}
 use Rattle.rules.proofs.ReadExactly.{apart_decided}
 

@@ -4,11 +4,11 @@ use Rattle.meaning.specs.Expression.{Expression, Arguments, NoMember}
 use Rattle.meaning.specs.World.{World}
 use Rattle.meaning.specs.Premises.{Premises}
 use Rattle.meaning.specs.Replacing.{Keeps}
-use Rattle.rules.specs.Deciding.{Role, Settings}
+use Rattle.rules.specs.Places.{Role, Settings}
 use Rattle.rules.specs.Facts.{Facts, true_in}
-use Rattle.rules.specs.Building.{pieces_of}
-use Rattle.rules.specs.Chain.{flat, chain_rule}
+use Rattle.rules.specs.Building.{pieces_of, flat}
 use Rattle.rules.specs.ChainBecomes.{Calls}
+use Rattle.rules.specs.Chain.{chain_rule}
 use Rattle.rules.specs.Laws.{ChainKeepsMeaning}
 use Rattle.rules.proofs.Leading.{truly_to}
 use Rattle.rules.proofs.Walking.{StringLed}

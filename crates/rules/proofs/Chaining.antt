@@ -2,17 +2,18 @@
 use Rattle.std.proofs.Common.{◌≡◌, ℕ, ◌≤◌, Bool, true, false, cond, List, [], ◌∷◌, length, refl, sym, subst, arith}
 use Rattle.meaning.specs.Expression.{Expression, Elements, Arguments, Units}
 use Rattle.meaning.specs.Methods.{concat_name}
-use Rattle.rules.specs.Deciding.{Role, Settings, same_name, outermost}
+use Rattle.rules.specs.Places.{Role, Settings, IsOutermost}
+use Rattle.rules.specs.Deciding.{same_name, outermost}
 use Rattle.rules.specs.Facts.{Facts}
-use Rattle.rules.specs.Chain.{Chain, longer, called_on, chain_of, flat, string_chain, array_chain, chained, chain_rule}
-use Rattle.rules.specs.MethodBecomes.{IsOutermost}
+use Rattle.rules.specs.Building.{flat}
 use Rattle.rules.specs.ChainBecomes.{Calls, ArraysApart}
+use Rattle.rules.specs.Chain.{Chain, longer, called_on, chain_of, string_chain, array_chain, chained, chain_rule}
 use Rattle.rules.proofs.Leading.{Leads, when_leads, leads_map}
 use Rattle.rules.proofs.Calling.{same_says, outermost_says}
 use Rattle.rules.proofs.Walking.{StringLed, string_leads}
 use Rattle.rules.proofs.ReadLater.{apart_leads}
 
-data ChainSays (x : Expression) : Chain → Type 0 where
+pub data ChainSays (x : Expression) : Chain → Type 0 where
   of_string : {m j : ℕ} {u : Units} {xss : List Arguments} → Calls (Expression.string j u) m x xss → ChainSays x (Chain.of_string (Expression.static_member m (Expression.string j u) concat_name) u xss)
   of_array : {m j : ℕ} {es : Elements} {xss : List Arguments} → Calls (Expression.array j es) m x xss → ChainSays x (Chain.of_array (Expression.static_member m (Expression.array j es) concat_name) xss)
   none : ChainSays x Chain.none
@@ -36,7 +37,7 @@ module _ (n m : ℕ) (xs : Arguments) where
       subst (λ z. ChainSays (Expression.call n (Expression.static_member m o z) xs) (called_on (Expression.static_member m o z) o xs c)) (sym (same_says k concat_name e)) (called_says o c d)
   named_says o k c false e d = ChainSays.none
 
-chain_says : (x : Expression) → ChainSays x (chain_of x)
+pub chain_says : (x : Expression) → ChainSays x (chain_of x)
 unfolding chain_of
 chain_says (Expression.call n (Expression.static_member m o k) xs) = named_says n m xs o k (chain_of o) (same_name k concat_name) refl (chain_says o)
 chain_says x = ChainSays.none

@@ -3,10 +3,12 @@ use Rattle.std.proofs.Common.{◌≡◌, ℕ, zero, suc, ◌^◌, ◌<◌, true,
 use Rattle.meaning.specs.Expression.{Expression, Elements, Units}
 use Rattle.meaning.specs.Number.{Number, whole}
 use Rattle.host.specs.Answers.{Answers}
-use Rattle.rules.specs.Deciding.{Role, decided}
+use Rattle.rules.specs.Places.{Role, TakesValue}
+use Rattle.rules.specs.Deciding.{decided}
 use Rattle.rules.specs.Facts.{said}
-use Rattle.rules.specs.Property.{void_zero, unit_or_void, element_at, without_effects, at_index, at_whole, at_key, property_read, property_rule}
-use Rattle.rules.specs.Indexed.{UnitAt, ElementAt, PropertyBecomes, TakesValue}
+use Rattle.rules.specs.Building.{void_zero}
+use Rattle.rules.specs.Indexed.{UnitAt, ElementAt, PropertyBecomes}
+use Rattle.rules.specs.Property.{unit_or_void, element_at, without_effects, at_index, at_whole, at_key, property_read, property_rule}
 use Rattle.rules.specs.Laws.{PropertyRewritesExactlyWhen}
 use Rattle.rules.proofs.Leading.{said_to, when_decided, unless_decided}
 use Rattle.rules.proofs.Indexing.{property_leads}

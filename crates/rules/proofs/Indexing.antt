@@ -2,10 +2,11 @@
 use Rattle.std.proofs.Common.{◌≡◌, ℕ, zero, suc, ◌^◌, ◌<◌, true, [], ◌∷◌, Some, None, Option, refl, subst, arith, nat_le}
 use Rattle.meaning.specs.Expression.{Expression, Elements, Units}
 use Rattle.meaning.specs.Number.{Number, whole}
-use Rattle.rules.specs.Deciding.{Role}
+use Rattle.rules.specs.Places.{Role, TakesValue}
 use Rattle.rules.specs.Facts.{Facts}
+use Rattle.rules.specs.Indexed.{UnitAt, ElementAt, PropertyBecomes}
 use Rattle.rules.specs.Property.{unit_or_void, element_at, without_effects, at_index, at_whole, at_key, property_read, property_rule}
-use Rattle.rules.specs.Indexed.{UnitAt, ElementAt, PropertyBecomes, TakesValue}
+use Rattle.rules.proofs.Absurd.{none_some}
 use Rattle.rules.proofs.Leading.{Leads, when_leads, unless_leads, leads_map}
 
 unit_found : (next : ℕ) (u : Units) (k : ℕ) → UnitAt next u k (unit_or_void next u k)
@@ -18,13 +19,10 @@ unit_found next (u ∷ us) (suc k) = by (unit_found next us k)
     by (UnitAt.unit e) = UnitAt.unit e
     by (UnitAt.past_end e) = UnitAt.past_end e
 
-some_none : {A B : Type 0} {b : B} → None ≡ Some b → A
-some_none e = let z : ◌≡◌ {A = ℕ} 0 1 = cc in absurd (omega arith)
-
 element_found : (next : ℕ) (xs : Elements) (k : ℕ) (y : Expression) → element_at next xs k ≡ Some y → ElementAt next xs k y
 unfolding element_at
-element_found next Elements.no_elements k y e = some_none e
-element_found next (Elements.spread l x xs) k y e = some_none e
+element_found next Elements.no_elements k y e = none_some e
+element_found next (Elements.spread l x xs) k y e = none_some e
 element_found next (Elements.item x xs) zero y e = let i : x ≡ y = cc in subst (λ z. ElementAt next (Elements.item x xs) zero z) i ElementAt.item_here
 element_found next (Elements.hole l xs) zero y e = by _ e ElementAt.hole_here
   where

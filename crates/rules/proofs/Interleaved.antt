@@ -2,9 +2,9 @@
 use Rattle.std.proofs.Common.{◌≡◌, ℕ, true, false, inl, inr, refl, sym, subst, arith}
 use Rattle.meaning.specs.Expression.{Expression, Arguments}
 use Rattle.meaning.specs.Parts.{Part}
-use Rattle.rules.specs.Deciding.{Deciding, settled}
+use Rattle.rules.specs.Deciding.{Deciding}
 use Rattle.rules.specs.Facts.{Facts}
-use Rattle.rules.specs.Interleaves.{SettledType, EachMayFollow, Interleaves, Short}
+use Rattle.rules.specs.Interleaves.{settled, SettledType, EachMayFollow, Interleaves, Short}
 use Rattle.rules.specs.Interleaving.{none_left, all_quiet, interleaving, short, no_spread}
 use Rattle.rules.proofs.Leading.{Leads, cond_leads, unless_leads}
 

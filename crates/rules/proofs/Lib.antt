@@ -1,3 +1,4 @@
+pub mod Absurd
 pub mod Alike
 pub mod Leading
 pub mod Keeping
@@ -14,6 +15,7 @@ pub mod Commuting
 pub mod Templates
 pub mod Merging
 pub mod MethodKeeps
+pub mod ConditionsExactly
 pub mod MethodExactly
 pub mod Together
 pub mod Walking
@@ -22,9 +24,15 @@ pub mod Chaining
 pub mod StringChains
 pub mod ArrayChains
 pub mod ChainKeeps
+pub mod Sizes
+pub mod Shrinking
 pub mod WalkExactly
 pub mod ReadExactly
 pub mod ChainExactly
-pub mod Sizes
-pub mod Shrinking
-pub mod Examples
+pub mod Computed
+pub mod Pairwise
+pub mod Numbers
+pub mod Numbered
+pub mod Payoffs
+pub mod KeptLawful
+pub mod WorkedComputed

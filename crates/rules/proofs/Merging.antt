@@ -10,9 +10,8 @@ use Rattle.meaning.specs.Premises.{Premises}
 use Rattle.meaning.specs.Replacing.{Keeps}
 use Rattle.meaning.proofs.Replacing.{Implies, calm_still}
 use Rattle.meaning.proofs.Determined.{asks_single, returns_single, then_single, watched_single}
-use Rattle.rules.specs.Building.{append_elements}
-use Rattle.rules.specs.Taking.{IsLiteral, Takes}
-use Rattle.rules.specs.Method.{with_object}
+use Rattle.rules.specs.Building.{append_elements, with_object}
+use Rattle.rules.specs.Takes.{IsLiteral, Takes}
 use Rattle.rules.specs.MethodBecomes.{Method}
 use Rattle.rules.proofs.Alike.{◌⨾◌, turned, first, second, regroup, begun, ended, constant, returns_alike, asks_settles, settles_alike, settles_gives, watched_alike, watched_gives, freely}
 use Rattle.rules.proofs.Keeping.{AlikeActs, keeps_by}

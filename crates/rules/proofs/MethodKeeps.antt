@@ -4,11 +4,11 @@ use Rattle.meaning.specs.Expression.{Expression, Quasi, Pieces, NoMember}
 use Rattle.meaning.specs.World.{World}
 use Rattle.meaning.specs.Premises.{Premises}
 use Rattle.meaning.specs.Replacing.{Keeps}
-use Rattle.rules.specs.Deciding.{Role, Settings}
+use Rattle.rules.specs.Places.{Role, Settings}
 use Rattle.rules.specs.Facts.{true_in}
 use Rattle.rules.specs.Building.{pieces_of, template_of}
-use Rattle.rules.specs.Method.{method_rule}
 use Rattle.rules.specs.MethodBecomes.{MethodBecomes}
+use Rattle.rules.specs.Method.{method_rule}
 use Rattle.rules.specs.Laws.{Fits, MethodKeepsMeaning}
 use Rattle.rules.proofs.Leading.{truly_to}
 use Rattle.rules.proofs.Calling.{method_leads}

@@ -3,12 +3,14 @@ use Rattle.std.proofs.Common.{◌≡◌, ℕ, Bool, true, false, cond, List, [],
 use Rattle.host.specs.Answers.{Answers}
 use Rattle.meaning.specs.Expression.{Expression, Arguments}
 use Rattle.meaning.specs.Parts.{Part}
-use Rattle.rules.specs.Deciding.{Deciding, decided, settled}
+use Rattle.rules.specs.Deciding.{Deciding, decided}
 use Rattle.rules.specs.Facts.{said}
-use Rattle.rules.specs.Interleaves.{SettledType}
+use Rattle.rules.specs.Building.{flat}
+use Rattle.rules.specs.Interleaves.{settled, SettledType}
 use Rattle.rules.specs.Interleaving.{no_spread, none_left}
-use Rattle.rules.specs.Chain.{flat, is_array, all_read, all_still, calls_apart}
 use Rattle.rules.specs.ChainBecomes.{IsArray, AllStill, MayBeReadLater, ArraysApart}
+use Rattle.rules.specs.Chain.{is_array, all_read, all_still, calls_apart}
+use Rattle.rules.proofs.Absurd.{true_false}
 use Rattle.rules.proofs.Leading.{unless_decided, cond_decided}
 
 module _ (a : Answers) where
@@ -31,7 +33,7 @@ module _ (a : Answers) where
 
   unread_still : (x : Expression) (zs : Arguments) → is_array x ≡ false → settled (a.value_type (Part.expression x)) ≡ false → IsArray x ⊎ (SettledType (said a) x ⊎ AllStill (said a) zs) → AllStill (said a) zs
   unread_still x zs e u (inl i) = no_array i e
-  unread_still x zs e u (inr (inl s)) = let z : ◌≡◌ {A = Bool} true false = sym s.2 ∙ ap settled (sym s.1) ∙ u in let y : ◌≡◌ {A = ℕ} 0 1 = cc in absurd (omega arith)
+  unread_still x zs e u (inr (inl s)) = true_false (sym s.2 ∙ ap settled (sym s.1) ∙ u)
   unread_still x zs e u (inr (inr h)) = h
 
   read_decided : (xs zs : Arguments) (d e : Deciding) (z : Rattle.std.proofs.Common.Option Expression) → MayBeReadLater (said a) xs zs → decided a d ≡ z → (AllStill (said a) zs → decided a e ≡ z) → decided a (all_read xs d e) ≡ z

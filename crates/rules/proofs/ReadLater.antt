@@ -1,13 +1,13 @@
 -- A chain of an array leads to one call: no argument with effects follows one that is read later.
 use Rattle.std.proofs.Common.{◌≡◌, ℕ, true, List, [], ◌∷◌, ◌⊎◌, inl, inr, sym, subst, arith}
 use Rattle.meaning.specs.Expression.{Expression, Arguments}
-use Rattle.rules.specs.Deciding.{Deciding, settled}
+use Rattle.rules.specs.Deciding.{Deciding}
 use Rattle.rules.specs.Facts.{Facts}
-use Rattle.rules.specs.Building.{append_arguments}
-use Rattle.rules.specs.Interleaves.{SettledType}
+use Rattle.rules.specs.Building.{append_arguments, flat}
+use Rattle.rules.specs.Interleaves.{settled, SettledType}
 use Rattle.rules.specs.Interleaving.{no_spread, none_left}
-use Rattle.rules.specs.Chain.{flat, is_array, all_read, all_still, calls_apart}
 use Rattle.rules.specs.ChainBecomes.{IsArray, AllStill, MayBeReadLater, ArraysApart}
+use Rattle.rules.specs.Chain.{is_array, all_read, all_still, calls_apart}
 use Rattle.rules.proofs.Leading.{Leads, cond_leads, unless_leads}
 use Rattle.rules.proofs.Interleaved.{at_end}
 

@@ -12,10 +12,11 @@ use Rattle.meaning.specs.Premises.{Premises}
 use Rattle.meaning.specs.Replacing.{Keeps}
 use Rattle.meaning.proofs.Replacing.{calm_still}
 use Rattle.meaning.proofs.Determined.{mean_single}
-use Rattle.rules.specs.Deciding.{Role}
+use Rattle.rules.specs.Places.{Role, TakesValue}
 use Rattle.rules.specs.Facts.{true_in}
-use Rattle.rules.specs.Property.{void_zero, property_rule}
-use Rattle.rules.specs.Indexed.{UnitAt, ElementAt, PropertyBecomes, TakesValue}
+use Rattle.rules.specs.Building.{void_zero}
+use Rattle.rules.specs.Indexed.{UnitAt, ElementAt, PropertyBecomes}
+use Rattle.rules.specs.Property.{property_rule}
 use Rattle.rules.specs.Laws.{Fits, PropertyKeepsMeaning}
 use Rattle.rules.proofs.Alike.{watched_gives, pointwise}
 use Rattle.rules.proofs.Leading.{truly_to}

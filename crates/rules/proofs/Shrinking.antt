@@ -1,14 +1,14 @@
 -- Every rewrite makes it smaller.
 use Rattle.std.proofs.Common.{◌≡◌, ℕ, ◌<◌, ◌≤◌, ◌+◌, List, refl, arith}
 use Rattle.meaning.specs.Expression.{Expression, Arguments, Units}
-use Rattle.rules.specs.Deciding.{Role, Settings}
+use Rattle.rules.specs.Places.{Role, Settings, TakesValue}
 use Rattle.rules.specs.Facts.{Facts, said}
-use Rattle.rules.specs.Building.{append_elements}
-use Rattle.rules.specs.Indexed.{PropertyBecomes, TakesValue}
+use Rattle.rules.specs.Building.{append_elements, flat}
+use Rattle.rules.specs.Indexed.{PropertyBecomes}
 use Rattle.rules.specs.Property.{property_rule}
-use Rattle.rules.specs.Method.{method_rule}
 use Rattle.rules.specs.MethodBecomes.{MethodBecomes}
-use Rattle.rules.specs.Chain.{flat, chain_rule}
+use Rattle.rules.specs.Method.{method_rule}
+use Rattle.rules.specs.Chain.{chain_rule}
 use Rattle.rules.specs.Size.{size, arguments_size}
 use Rattle.rules.specs.Laws.{ARewriteMakesItSmaller}
 use Rattle.rules.proofs.Leading.{said_to}

@@ -3,12 +3,10 @@ use Rattle.std.proofs.Common.{◌≡◌, ℕ, suc, ◌+◌, ◌*◌, ◌<◌, �
 use Rattle.tree.specs.declared.node.FirstChild.{FirstChild}
 use Rattle.meaning.specs.Expression.{Expression, Elements, Arguments, Quasi, Pieces, Children, Units}
 use Rattle.meaning.specs.Replacing.{Swap, SwapElements, SwapArguments, SwapPieces, SwapChildren}
-use Rattle.rules.specs.Building.{elements_of, append_elements, append_arguments, text_of, add_piece, pieces_of, template_of}
-use Rattle.rules.specs.Taking.{Takes}
+use Rattle.rules.specs.Building.{elements_of, append_elements, append_arguments, text_of, add_piece, pieces_of, template_of, with_object, flat}
+use Rattle.rules.specs.Takes.{Takes}
 use Rattle.rules.specs.Indexed.{UnitAt, ElementAt}
-use Rattle.rules.specs.Method.{with_object}
 use Rattle.rules.specs.MethodBecomes.{Method}
-use Rattle.rules.specs.Chain.{flat}
 use Rattle.rules.specs.ChainBecomes.{Calls}
 use Rattle.rules.specs.Size.{size, elements_size, arguments_size, pieces_size, children_size}
 use Rattle.rules.specs.Laws.{ASmallerPartMakesTheWholeSmaller}

@@ -11,23 +11,18 @@ use Rattle.meaning.specs.Premises.{Premises}
 use Rattle.meaning.specs.Replacing.{Keeps}
 use Rattle.meaning.proofs.Replacing.{Implies, then_first}
 use Rattle.meaning.proofs.Determined.{asks_single, returns_single, then_single}
-use Rattle.rules.specs.Deciding.{Settings}
+use Rattle.rules.specs.Places.{Settings}
 use Rattle.rules.specs.Facts.{true_in}
-use Rattle.rules.specs.Building.{new_quasi, pieces_of, joined}
+use Rattle.rules.specs.Building.{new_quasi, pieces_of, joined, flat}
 use Rattle.rules.specs.Interleaves.{Interleaves}
-use Rattle.rules.specs.Chain.{flat}
 use Rattle.rules.specs.MethodBecomes.{Method}
 use Rattle.rules.specs.ChainBecomes.{Calls, EachInterleaves}
-use Rattle.rules.proofs.Alike.{itself, ◌⨾◌, turned, first, second, regroup, begun, ended, constant, asks_settles, settles_then, settles_gives, watched_alike, watched_gives, freely}
+use Rattle.rules.proofs.Alike.{itself, ◌⨾◌, turned, first, second, regroup, begun, ended, constant, asks_settles, settles_then, settles_gives, watched_alike, watched_gives, unwatched, freely}
 use Rattle.rules.proofs.Keeping.{AlikeActs}
 use Rattle.rules.proofs.Callees.{method_callee}
 use Rattle.rules.proofs.Templates.{afterwards, interleave_behind, templated, string_concat_alike}
 use Rattle.rules.proofs.Together.{together_each}
 use Rattle.rules.proofs.Walking.{StringLed}
-
-pub unwatched : {S A : Type 0} {m : Act S A} (c : Mode) → Implies S A (Watched S A m c) m
-unwatched Mode.free s r t (Watched.freely d) = d
-unwatched Mode.calm s r t (Watched.calmly d _) = d
 
 module _ (w : World) where
   -- the text of a chain, call by call, the innermost first

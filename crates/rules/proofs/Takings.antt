@@ -1,6 +1,7 @@
 -- What is taken in, as the relation says.
 use Rattle.meaning.specs.Expression.{Expression, Arguments}
-use Rattle.rules.specs.Taking.{leading, taken, left, taken_count, taken_with, left_with, taken_count_with, IsLiteral, Takes}
+use Rattle.rules.specs.Takes.{IsLiteral, Takes}
+use Rattle.rules.specs.Taking.{leading, taken, left, taken_count, taken_with, left_with, taken_count_with}
 
 pub takes : (xs : Arguments) → Takes (taken_count xs) xs (taken xs) (left xs)
 unfolding taken left taken_count taken_with left_with taken_count_with leading

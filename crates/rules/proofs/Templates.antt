@@ -1,5 +1,5 @@
 -- A template has the runs of `concat` on a string, where the arguments interleave.
-use Rattle.std.proofs.Common.{◌≡◌, ℕ, suc, false, List, [], ◌∷◌, ◌++◌, Some, None, Option, ◌⊎◌, inl, inr, refl, sym, subst, ap, append_assoc, append-nil, arith}
+use Rattle.std.proofs.Common.{◌≡◌, ℕ, suc, false, List, [], ◌∷◌, ◌++◌, Some, None, Option, ◌⊎◌, inl, inr, refl, sym, subst, ap, append_assoc, append-nil}
 use Rattle.meaning.specs.Expression.{Expression, Arguments, Quasi, Pieces, Units}
 use Rattle.meaning.specs.Value.{Value}
 use Rattle.meaning.specs.World.{World, ValueIn, Result, text_value, ◌>>=◌}
@@ -15,6 +15,7 @@ use Rattle.rules.specs.Facts.{Facts, true_in}
 use Rattle.rules.specs.Building.{append_arguments, text_of, new_quasi, add_piece, pieces_of, template_of, joined}
 use Rattle.rules.specs.Interleaves.{SettledType, EachMayFollow, Interleaves}
 use Rattle.rules.specs.MethodBecomes.{Method}
+use Rattle.rules.proofs.Absurd.{none_some}
 use Rattle.rules.proofs.Alike.{itself, ◌⨾◌, turned, first, second, after, regroup, begun, ended, constant, returns_alike, asks_settles, settles_alike, settles_then, settles_gives, watched_alike, watched_gives}
 use Rattle.rules.proofs.Keeping.{AlikeActs, keeps_by, in_mode, as_run}
 use Rattle.rules.proofs.Interleaved.{AllQuiet}
@@ -38,9 +39,6 @@ unfolding append_arguments
 append_none Arguments.no_arguments = refl
 append_none (Arguments.argument x xs) = ap (Arguments.argument x) (append_none xs)
 append_none (Arguments.spread_argument l x xs) = ap (Arguments.spread_argument l x) (append_none xs)
-
-none_some : {A : Type 0} {u : Units} → None ≡ Some u → A
-none_some e = let z : ◌≡◌ {A = ℕ} 0 1 = cc in absurd (omega arith)
 
 module _ (w : World) (c : Mode) where
   quiet_arguments : (xs : Arguments) → AllQuiet (true_in w) xs → (s : w.State) → (vs : List (ValueIn w)) × arguments w c xs s (Result.gives vs) s

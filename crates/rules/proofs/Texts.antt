@@ -1,5 +1,5 @@
 -- A value of a settled type has one text, and is read by `concat` in one way, whatever the state.
-use Rattle.std.proofs.Common.{◌≡◌, ℕ, Bool, true, false, ap, ◌∙◌, refl, arith}
+use Rattle.std.proofs.Common.{◌≡◌, Bool, true, false, ap, ◌∙◌, refl}
 use Rattle.host.specs.declared.value_type.ValueType.{ValueType}
 use Rattle.host.specs.declared.value_type.ValueType.TheVariants.{Undetermined, Undefined, Null, Number, BigInt, String, Boolean, Object}
 use Rattle.meaning.specs.Expression.{Expression, Units}
@@ -9,9 +9,9 @@ use Rattle.meaning.specs.Coercion.{to_primitive, primitive_text, to_text}
 use Rattle.meaning.specs.Methods.{spread_slots}
 use Rattle.meaning.specs.Runs.{Runs}
 use Rattle.host.specs.Truth.{OfType, PrimitiveOfType, TypeOfObjects}
-use Rattle.rules.specs.Deciding.{settled}
 use Rattle.rules.specs.Facts.{true_in}
-use Rattle.rules.specs.Interleaves.{SettledType}
+use Rattle.rules.specs.Interleaves.{settled, SettledType}
+use Rattle.rules.proofs.Absurd.{false_true}
 
 -- every value of x has one text, whatever the state
 abbrev pub OneText : World → Expression → Type 0
@@ -20,9 +20,6 @@ OneText w x = (s : w.State) (v : ValueIn w) (t : w.State) → Runs w x s (Result
 -- every value of x is read as concat reads it in one way, whatever the state
 abbrev pub OneSpread : World → Expression → Type 0
 OneSpread w x = (s : w.State) (v : ValueIn w) (t : w.State) → Runs w x s (Result.gives v) t → (a : SlotsIn w) × ((s : w.State) → spread_slots w v s ≡ Result.gives a)
-
-false_true : {A : Type 0} → false ≡ true → A
-false_true e = let z : ◌≡◌ {A = ℕ} 0 1 = cc in absurd (omega arith)
 
 module _ (w : World) where
   primitive_one : (p : PrimitiveIn w) (u : Units) → primitive_text w p ≡ Result.gives u → (v : Units) × ((s : w.State) → to_text w (Value.primitive p) s ≡ Result.gives v)

@@ -1,14 +1,18 @@
 -- Arguments that interleave call by call, and together: what follows for arguments behind others.
-use Rattle.std.proofs.Common.{ℕ, true, List, [], ◌∷◌}
+use Rattle.std.proofs.Common.{false, ◌≡◌, ℕ, true, List, [], ◌∷◌}
+use Rattle.host.specs.declared.value_type.ValueType.{ValueType}
 use Rattle.meaning.specs.Expression.{Expression, Arguments}
 use Rattle.meaning.specs.Parts.{Part}
 use Rattle.rules.specs.Facts.{Facts}
-use Rattle.rules.specs.Building.{append_arguments}
-use Rattle.rules.specs.Interleaves.{UnsettledType, EachMayFollow, Interleaves}
-use Rattle.rules.specs.Chain.{flat}
+use Rattle.rules.specs.Building.{append_arguments, flat}
+use Rattle.rules.specs.Interleaves.{settled, EachMayFollow, Interleaves}
 use Rattle.rules.specs.ChainBecomes.{EachInterleaves}
 
 module _ (f : Facts) where
+  -- an expression of type Object or Undetermined
+  abbrev pub UnsettledType : Expression → Type 0
+  UnsettledType x = (t : ValueType) × f.of_type t (Part.expression x) × (settled t ≡ false)
+
   -- some argument has effects
   pub data AnyEffects : Arguments → Type 0 where
     here : {x : Expression} {xs : Arguments} → f.effects true (Part.expression x) → AnyEffects (Arguments.argument x xs)
@@ -17,7 +21,7 @@ module _ (f : Facts) where
 
   -- some argument with effects follows one that is not settled
   pub data Clashes : Arguments → Type 0 where
-    here : {x : Expression} {xs : Arguments} → UnsettledType f x → AnyEffects xs → Clashes (Arguments.argument x xs)
+    here : {x : Expression} {xs : Arguments} → UnsettledType x → AnyEffects xs → Clashes (Arguments.argument x xs)
     past : {x : Expression} {xs : Arguments} → Clashes xs → Clashes (Arguments.argument x xs)
     past_spread : {l : ℕ} {x : Expression} {xs : Arguments} → Clashes xs → Clashes (Arguments.spread_argument l x xs)
 

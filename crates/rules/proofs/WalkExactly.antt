@@ -1,20 +1,18 @@
 -- Whether a string's calls interleave, together or each, is found out.
-use Rattle.std.proofs.Common.{◌≡◌, ℕ, Bool, true, false, cond, List, [], ◌∷◌, ◌⊎◌, inl, inr, refl, sym, subst, ◌∙◌, arith}
+use Rattle.std.proofs.Common.{◌≡◌, Bool, true, false, cond, List, [], ◌∷◌, ◌⊎◌, inl, inr, refl, sym, subst, ◌∙◌}
 use Rattle.host.specs.Answers.{Answers}
 use Rattle.meaning.specs.Expression.{Expression, Arguments}
 use Rattle.meaning.specs.Parts.{Part}
-use Rattle.rules.specs.Deciding.{Deciding, decided, unless_effects, settled}
+use Rattle.rules.specs.Deciding.{Deciding, decided, unless_effects}
+use Rattle.rules.specs.Interleaves.{settled, EachMayFollow, Interleaves}
 use Rattle.rules.specs.Facts.{said}
-use Rattle.rules.specs.Interleaves.{EachMayFollow, Interleaves}
 use Rattle.rules.specs.Interleaving.{no_spread, none_left, all_quiet, interleaving}
 use Rattle.rules.specs.Chain.{each_interleaving}
 use Rattle.rules.specs.ChainBecomes.{EachInterleaves}
 use Rattle.rules.proofs.Interleaved.{AllQuiet, at_end, quiet_follow, quiet_interleave, settled_follow}
 use Rattle.rules.proofs.Together.{AnyEffects, Clashes}
-use Rattle.rules.proofs.MethodExactly.{interleaving_decided, quiet_of}
-
-true_false : {A : Type 0} → true ≡ false → A
-true_false e = let z : ◌≡◌ {A = ℕ} 0 1 = cc in absurd (omega arith)
+use Rattle.rules.proofs.ConditionsExactly.{interleaving_decided, quiet_of}
+use Rattle.rules.proofs.Absurd.{true_false}
 
 module _ (a : Answers) where
   pub each_decided : (xss : List Arguments) (d : Deciding) → EachInterleaves (said a) xss → decided a (each_interleaving xss d) ≡ decided a d

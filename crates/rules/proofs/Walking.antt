@@ -2,12 +2,13 @@
 use Rattle.std.proofs.Common.{◌≡◌, ℕ, true, false, ◌&&◌, List, [], ◌∷◌, length, ◌⊎◌, inl, inr, sym, subst, arith}
 use Rattle.std.specs.Cmp.{first_so, second_so}
 use Rattle.meaning.specs.Expression.{Expression, Arguments, Units}
-use Rattle.rules.specs.Deciding.{Deciding, Settings, settled}
+use Rattle.rules.specs.Deciding.{Deciding}
+use Rattle.rules.specs.Places.{Settings}
+use Rattle.rules.specs.Interleaves.{settled, EachMayFollow, Interleaves, Short}
 use Rattle.rules.specs.Facts.{Facts}
-use Rattle.rules.specs.Building.{joined}
-use Rattle.rules.specs.Interleaves.{EachMayFollow, Interleaves, Short}
+use Rattle.rules.specs.Building.{joined, flat}
 use Rattle.rules.specs.Interleaving.{no_spread, none_left, all_quiet, interleaving, short}
-use Rattle.rules.specs.Chain.{flat, each_interleaving, string_chain}
+use Rattle.rules.specs.Chain.{each_interleaving, string_chain}
 use Rattle.rules.specs.ChainBecomes.{EachInterleaves}
 use Rattle.rules.proofs.Leading.{Leads, when_leads, cond_leads, unless_leads}
 use Rattle.rules.proofs.Interleaved.{AllQuiet, short_says, at_end, quiet_follow, quiet_interleave, settled_follow, interleaving_leads}

@@ -1,6 +1,6 @@
--- What the rules build of arguments: the elements of an array, and a template. New nodes are numbered from the first free
--- number on, children before parents, left to right.
-use Rattle.std.specs.Prelude.{ℕ, suc, ◌+◌, [], ◌++◌, Some, None, Option}
+-- What the rules build. New nodes are numbered from the first free number on, children before parents, left to right.
+use Rattle.std.specs.Prelude.{ℕ, suc, ◌+◌, List, [], ◌∷◌, ◌++◌, Some, None, Option}
+use Rattle.tree.specs.declared.node.UnaryOperator.TheVariants.{Void}
 use Rattle.template.specs.Escaped.{raw_of}
 use Rattle.meaning.specs.Expression.{Expression, Elements, Arguments, Quasi, Pieces, Units}
 
@@ -10,17 +10,23 @@ elements_of Arguments.no_arguments = Elements.no_elements
 elements_of (Arguments.argument x xs) = Elements.item x (elements_of xs)
 elements_of (Arguments.spread_argument l x xs) = Elements.spread l x (elements_of xs)
 
--- One row of elements, and of arguments, behind the other. oxc_minifier's `append` and `flat_map` of argument lists.
+-- One row of elements behind the other. oxc_minifier's `try_fold_concat`, `append`.
 unfoldable pub append_elements : Elements → Elements → Elements
 append_elements Elements.no_elements ys = ys
 append_elements (Elements.item x xs) ys = Elements.item x (append_elements xs ys)
 append_elements (Elements.hole l xs) ys = Elements.hole l (append_elements xs ys)
 append_elements (Elements.spread l x xs) ys = Elements.spread l x (append_elements xs ys)
 
+-- One row of arguments behind the other. oxc_minifier's `replace_concat_chain`, `flat_map`.
 unfoldable pub append_arguments : Arguments → Arguments → Arguments
 append_arguments Arguments.no_arguments ys = ys
 append_arguments (Arguments.argument x xs) ys = Arguments.argument x (append_arguments xs ys)
 append_arguments (Arguments.spread_argument l x xs) ys = Arguments.spread_argument l x (append_arguments xs ys)
+
+-- The arguments of several calls, in order. oxc_minifier's `replace_concat_chain`, `flat_map`.
+unfoldable pub flat : List Arguments → Arguments
+flat [] = Arguments.no_arguments
+flat (xs ∷ xss) = append_arguments xs (flat xss)
 
 -- The text of a string node; no other node joins the texts beside it. oxc_minifier's `fold_string_concat`.
 unfoldable pub text_of : Expression → Option Units
@@ -31,13 +37,14 @@ text_of x = None
 unfoldable pub new_quasi : ℕ → Units → Quasi
 new_quasi l u = Quasi.quasi l (raw_of u) u
 
--- The pieces of a base text and arguments, from a number on: a string joins the text before it, and any other argument ends
--- a quasi. (A spread has no place in a template, and is passed over; no rule builds one of a spread.) oxc_minifier's
--- `fold_string_concat`.
+-- One argument behind a text: a string joins the text, and any other argument ends a quasi. The rest is built from a
+-- number and the text so far. oxc_minifier's `fold_string_concat`.
 unfoldable pub add_piece : ℕ → Units → Expression → (ℕ → Units → Pieces) → Option Units → Pieces
 add_piece next u x rest (Some v) = rest next (u ++ v)
 add_piece next u x rest None = Pieces.piece (new_quasi next u) x (rest (suc next) [])
 
+-- The pieces of a text and the arguments behind it, the quasis numbered from `next` on. (A spread has no place in a
+-- template, and no rule builds one of a spread.) oxc_minifier's `fold_string_concat`.
 unfoldable pub pieces_of : ℕ → Units → Arguments → Pieces
 pieces_of next u Arguments.no_arguments = Pieces.last (new_quasi next u)
 pieces_of next u (Arguments.argument x xs) = add_piece next u x (λ n v. pieces_of n v xs) (text_of x)
@@ -48,12 +55,23 @@ unfoldable pub quasi_count : Pieces → ℕ
 quasi_count (Pieces.last q) = 1
 quasi_count (Pieces.piece q x ps) = suc (quasi_count ps)
 
--- The template of pieces whose quasis are numbered from `next` on: its own number is behind theirs. Without an expression
--- it is a string, and no quasi is made. oxc_minifier's `fold_string_concat`.
+-- The template of pieces whose quasis are numbered from `next` on: its own number is behind theirs. Without an
+-- expression it is a string, and no quasi is made. oxc_minifier's `fold_string_concat`.
 unfoldable pub template_of : ℕ → Pieces → Expression
 template_of next (Pieces.last (Quasi.quasi l raw u)) = Expression.string next u
 template_of next (Pieces.piece q x ps) = Expression.template (next + quasi_count (Pieces.piece q x ps)) (Pieces.piece q x ps)
 
--- The template of a base text and arguments. oxc_minifier's `fold_string_concat`.
+-- The template, or string, of a base text and arguments. oxc_minifier's `fold_string_concat`.
 abbrev pub joined : ℕ → Units → Arguments → Expression
 joined next u xs = template_of next (pieces_of next u xs)
+
+-- A callee, of another object: a new member with the same name, or the same key node. (No origin: the original
+-- changes the array in place.)
+unfoldable pub with_object : ℕ → Expression → Expression → Expression
+with_object l (Expression.static_member m o k) y = Expression.static_member l y k
+with_object l (Expression.computed_member m o k) y = Expression.computed_member l y k
+with_object l f y = f
+
+-- `void 0`, two new nodes. oxc_minifier's `new_void_0`; ECMA-262, "The void Operator".
+abbrev pub void_zero : ℕ → Expression
+void_zero next = Expression.unary (next + 1) Void (Expression.number next 0)

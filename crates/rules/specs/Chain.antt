@@ -1,14 +1,18 @@
--- The rule chain: calls of a static member `concat`, one as the object of the next, inwards to a string or an array literal.
+-- The rule chain: calls of a static member `concat`, one as the object of the next, inwards to a string or an array
+-- literal.
 use Rattle.std.specs.Prelude.{ℕ, Bool, true, false, cond, ◌&&◌, List, [], ◌∷◌, ◌++◌, length}
 use Rattle.meaning.specs.Expression.{Expression, Arguments, Units}
 use Rattle.meaning.specs.Methods.{concat_name}
 use Rattle.meaning.specs.Parts.{Part}
-use Rattle.rules.specs.Deciding.{Deciding, Role, Settings, when, unless_effects, settled, same_name, outermost}
-use Rattle.rules.specs.Building.{append_arguments, joined}
+use Rattle.rules.specs.Places.{Role, Settings}
+use Rattle.rules.specs.Deciding.{Deciding, when, unless_effects, same_name, outermost}
+use Rattle.rules.specs.Building.{joined, flat}
+use Rattle.rules.specs.Interleaves.{settled}
 use Rattle.rules.specs.Interleaving.{no_spread, none_left, interleaving, short}
 
--- The calls of a chain, as the arguments of each, the innermost call first, with the innermost callee, whose object is a
--- string of this text or an array literal. oxc_minifier's `replace_concat_chain`, `collected_arguments` and `new_root_callee`.
+-- The calls of a chain, as the arguments of each, the innermost call first, with the innermost callee, whose object
+-- is a string of this text or an array literal. oxc_minifier's `replace_concat_chain`, `collected_arguments` and
+-- `new_root_callee`.
 pub data Chain : Type 0 where
   of_string : (callee : Expression) → Units → List Arguments → Chain
   of_array : (callee : Expression) → List Arguments → Chain
@@ -27,14 +31,10 @@ called_on f (Expression.string j u) xs c = Chain.of_string f u (xs ∷ [])
 called_on f (Expression.array j es) xs c = Chain.of_array f (xs ∷ [])
 called_on f o xs c = longer c xs
 
+-- The chain that a call is the outermost of. oxc_minifier's `replace_concat_chain`, its loop.
 unfoldable pub chain_of : Expression → Chain
 chain_of (Expression.call n (Expression.static_member m o k) xs) = cond (same_name k concat_name) (called_on (Expression.static_member m o k) o xs (chain_of o)) Chain.none
 chain_of x = Chain.none
-
--- All arguments, those of the innermost call first. oxc_minifier's `replace_concat_chain`, by `rev` and `flat_map`.
-unfoldable pub flat : List Arguments → Arguments
-flat [] = Arguments.no_arguments
-flat (xs ∷ xss) = append_arguments xs (flat xss)
 
 -- ---- of a string
 
@@ -60,8 +60,8 @@ unfoldable pub is_array : Expression → Bool
 is_array (Expression.array l xs) = true
 is_array x = false
 
--- One decision if no argument is a spread, and each is an array literal or settled, and another else. (Not in the original,
--- which joins the calls of an array in any case.)
+-- One decision if no argument is a spread, and each is an array literal or settled, and another else. (Not in the
+-- original, which joins the calls of an array in any case.)
 unfoldable pub all_read : Arguments → Deciding → Deciding → Deciding
 all_read Arguments.no_arguments d e = d
 all_read (Arguments.argument x xs) d e = cond (is_array x) (all_read xs d e) (Deciding.ask_type (Part.expression x) (λ t. cond (settled t) (all_read xs d e) e))
@@ -73,7 +73,8 @@ all_still Arguments.no_arguments d = d
 all_still (Arguments.argument x xs) d = Deciding.ask_effects (Part.expression x) (λ b. unless_effects b (all_still xs d) Deciding.keep)
 all_still (Arguments.spread_argument l x xs) d = Deciding.ask_effects (Part.spread l x) (λ b. unless_effects b (all_still xs d) Deciding.keep)
 
--- One decision if no argument with effects follows, in a later call, one that `concat` reads only then. (Not in the original.)
+-- One decision if no argument with effects follows, in a later call, one that `concat` reads only then. (Not in the
+-- original.)
 unfoldable pub calls_apart : List Arguments → Deciding → Deciding
 calls_apart [] d = d
 calls_apart (xs ∷ xss) d =

@@ -3,15 +3,13 @@ use Rattle.std.specs.Prelude.{◌≡◌, ℕ, ◌≤◌, true, false, List, [], 
 use Rattle.meaning.specs.Expression.{Expression, Elements, Arguments, Units}
 use Rattle.meaning.specs.Methods.{concat_name}
 use Rattle.meaning.specs.Parts.{Part}
-use Rattle.rules.specs.Deciding.{Role, Settings}
+use Rattle.rules.specs.Places.{Role, Settings, IsOutermost}
 use Rattle.rules.specs.Facts.{Facts}
-use Rattle.rules.specs.Building.{joined}
+use Rattle.rules.specs.Building.{joined, flat}
 use Rattle.rules.specs.Interleaves.{SettledType, Interleaves, Short}
-use Rattle.rules.specs.Chain.{flat}
-use Rattle.rules.specs.MethodBecomes.{IsOutermost}
 
--- The calls of a chain on a base, as the arguments of each, the innermost call first; the number is that of the innermost
--- callee. ECMA-262, "Function Calls" of "Property Accessors"; oxc_minifier's `replace_concat_chain`.
+-- The calls of a chain on a base, as the arguments of each, the innermost call first; the number is that of the
+-- innermost callee. ECMA-262, "Function Calls" of "Property Accessors"; oxc_minifier's `replace_concat_chain`.
 pub data Calls (base : Expression) (m : ℕ) : Expression → List Arguments → Type 0 where
   innermost : {n : ℕ} {xs : Arguments} → Calls base m (Expression.call n (Expression.static_member m base concat_name) xs) (xs ∷ [])
   outer : {n i : ℕ} {x : Expression} {xs : Arguments} {xss : List Arguments} → Calls base m x xss
@@ -22,8 +20,8 @@ abbrev pub EachInterleaves : Facts → List Arguments → Type 0
 EachInterleaves f [] = Unit {0}
 EachInterleaves f (xs ∷ xss) = Interleaves f xs × EachInterleaves f xss
 
--- The calls that a template is held against: one, if all arguments together interleave, since they then could become one
--- call; and else as many as there are. oxc_minifier's `replace_concat_chain`, `call_count`.
+-- The calls that a template is held against: one, if all arguments together interleave, since they then could become
+-- one call; and else as many as there are. oxc_minifier's `replace_concat_chain`, `call_count`.
 pub data CallCount (f : Facts) (xss : List Arguments) : ℕ → Type 0 where
   together : Interleaves f (flat xss) → CallCount f xss 1
   apart : (Interleaves f (flat xss) → ⊥) → CallCount f xss (length xss)
@@ -38,16 +36,17 @@ AllStill f Arguments.no_arguments = Unit {0}
 AllStill f (Arguments.argument x xs) = f.effects false (Part.expression x) × AllStill f xs
 AllStill f (Arguments.spread_argument l x xs) = f.effects false (Part.spread l x) × AllStill f xs
 
--- Each argument is an array literal, or of a type other than Object and Undetermined, or no later argument has effects, which
--- a spread always asks for. ECMA-262, "IsConcatSpreadable", and "Array.prototype.concat", which reads its arguments only once
--- it is called.
+-- Each argument is an array literal, or of a type other than Object and Undetermined, or no later argument has
+-- effects, which a spread always asks for. ECMA-262, "IsConcatSpreadable", and "Array.prototype.concat", which reads
+-- its arguments only once it is called.
 abbrev pub MayBeReadLater : Facts → Arguments → (later : Arguments) → Type 0
 MayBeReadLater f Arguments.no_arguments zs = Unit {0}
 MayBeReadLater f (Arguments.argument x xs) zs = (IsArray x ⊎ (SettledType f x ⊎ AllStill f zs)) × MayBeReadLater f xs zs
 MayBeReadLater f (Arguments.spread_argument l x xs) zs = AllStill f zs × MayBeReadLater f xs zs
 
--- No argument with effects follows, in a later call, a spread or an argument of type Object or Undetermined that is no array
--- literal. (A condition that the original lacks: an argument that runs later could change what was read before.)
+-- No argument with effects follows, in a later call, a spread or an argument of type Object or Undetermined that is
+-- no array literal. (A condition that the original lacks: an argument that runs later could change what was read
+-- before.)
 abbrev pub ArraysApart : Facts → List Arguments → Type 0
 ArraysApart f [] = Unit {0}
 ArraysApart f (xs ∷ xss) = MayBeReadLater f xs (flat xss) × ArraysApart f xss

@@ -1,113 +1,163 @@
--- Both sides of the rules, on examples.
-use Rattle.std.specs.Prelude.{◌≡◌, ℕ, Bool, true, not, cond, ◌==◌, List, [], ◌∷◌, Some, None, Option, codes}
+-- Both sides of each rule, computed: what an expression becomes, with the numbers of its new nodes, and what was asked.
+use Rattle.std.specs.Prelude.{◌≡◌, ℕ, true, false, List, [], ◌∷◌, Some, None, Option, codes}
+use Rattle.tree.specs.declared.node.UnaryOperator.TheVariants.{Plus, Void}
+use Rattle.tree.specs.declared.node.BinaryOperator.TheVariants.{Exponentiation}
+use Rattle.tree.specs.declared.node.FirstChild.{FirstChild}
 use Rattle.template.specs.Escaped.{raw_of}
-use Rattle.tree.specs.declared.node.FirstChild.TheVariants.{Value}
-use Rattle.meaning.specs.Expression.{Expression, Elements, Arguments, Pieces, Quasi, Children}
+use Rattle.host.specs.declared.value_type.ValueType.TheVariants.{Undetermined, Number}
+use Rattle.meaning.specs.Expression.{Expression, Elements, Arguments, Quasi, Pieces, Children, Units}
+use Rattle.meaning.specs.Methods.{concat_name, pow_name, of_name, math_name, array_name}
 use Rattle.meaning.specs.Parts.{Part}
-use Rattle.host.specs.declared.value_type.ValueType.{ValueType}
-use Rattle.host.specs.declared.value_type.ValueType.TheVariants.{Number, Undetermined}
-use Rattle.host.specs.Answers.{Answers}
-use Rattle.host.specs.Structural.{structural_answers}
-use Rattle.rules.specs.Deciding.{Settings, Role, decided}
-use Rattle.rules.specs.Chain.{chain_rule}
+use Rattle.host.specs.Answers.{Answers, Question}
+use Rattle.rules.specs.Places.{Role, Settings}
+use Rattle.rules.specs.Deciding.{decided, asked}
+use Rattle.rules.specs.Property.{property_rule}
 use Rattle.rules.specs.Method.{method_rule}
-use Rattle.rules.specs.Property.{property_rule, void_zero}
+use Rattle.rules.specs.Chain.{chain_rule}
 
--- p and q are opaque, with effects and of type Undetermined; n is opaque with the mark 2, without effects and of type Number.
--- Their numbers do not matter.
+-- Three hosts: one knows nothing, one knows only that names are global, and by one all is a number without effects.
+abbrev pub knows_nothing : Answers
+knows_nothing = record { effects = λ z. true; value_type = λ z. Undetermined; global = λ z. false }
+
+abbrev pub all_global : Answers
+all_global = record { effects = λ z. true; value_type = λ z. Undetermined; global = λ z. true }
+
+abbrev pub all_numbers : Answers
+all_numbers = record { effects = λ z. false; value_type = λ z. Number; global = λ z. true }
+
+-- Two opaque expressions; a string, an array literal and the numbers 1, 2 and 3; arguments; a call of a static member;
+-- and a new quasi.
 abbrev pub p : Expression
-p = Expression.opaque 1 Value 0 Children.no_children
+p = Expression.opaque 1 FirstChild.Value 0 Children.no_children
 
 abbrev pub q : Expression
-q = Expression.opaque 2 Value 1 Children.no_children
+q = Expression.opaque 2 FirstChild.Value 1 Children.no_children
 
-abbrev pub n : Expression
-n = Expression.opaque 3 Value 2 Children.no_children
+abbrev pub string : Units → Expression
+string u = Expression.string 3 u
 
--- What is said of n, and of all else what the structural host says that knows no bound names.
-abbrev pub said_effects : Part → Bool
-said_effects (Part.expression (Expression.opaque l f m xs)) = not (m == 2)
-said_effects x = (structural_answers []).effects x
+abbrev pub items : List Expression → Elements
+items [] = Elements.no_elements
+items (x ∷ xs) = Elements.item x (items xs)
 
-abbrev pub said_type : Part → ValueType
-said_type (Part.expression (Expression.opaque l f m xs)) = cond (m == 2) Number Undetermined
-said_type x = (structural_answers []).value_type x
+abbrev pub array : List Expression → Expression
+array xs = Expression.array 4 (items xs)
 
-abbrev pub answers : Answers
-answers = record { effects = said_effects; value_type = said_type; global = (structural_answers []).global }
+abbrev pub one : Expression
+one = Expression.number 5 0x3FF0000000000000
 
--- Templates and `**` are supported, the place is an ordinary one, and 20 is the first free number.
-abbrev pub both : Settings
-both = record { templates = true; power = true }
+abbrev pub two : Expression
+two = Expression.number 6 0x4000000000000000
 
-abbrev pub by_chain : Expression → Option Expression
-by_chain x = decided answers (chain_rule both 20 Role.ordinary x)
-
-abbrev pub by_method : Expression → Option Expression
-by_method x = decided answers (method_rule both 20 Role.ordinary x)
-
-abbrev pub by_property : Expression → Option Expression
-by_property x = decided answers (property_rule 20 Role.ordinary x)
-
--- object.concat(..), with no matter which numbers.
-abbrev pub concat : Expression → Arguments → Expression
-concat o xs = Expression.call 10 (Expression.static_member 11 o (codes "concat")) xs
-
-abbrev pub empty_string : Expression
-empty_string = Expression.string 12 []
-
-abbrev pub empty_array : Expression
-empty_array = Expression.array 12 Elements.no_elements
+abbrev pub three : Expression
+three = Expression.number 7 0x4008000000000000
 
 abbrev pub arguments : List Expression → Arguments
 arguments [] = Arguments.no_arguments
 arguments (x ∷ xs) = Arguments.argument x (arguments xs)
 
--- The numbers 1, 2 and 3, by their bits.
-abbrev pub one_node : Expression
-one_node = Expression.number 13 0x3FF0000000000000
+abbrev pub call : Expression → Units → List Expression → Expression
+call o k xs = Expression.call 9 (Expression.static_member 8 o k) (arguments xs)
 
-abbrev pub two_node : Expression
-two_node = Expression.number 14 0x4000000000000000
+abbrev pub quasi : ℕ → Units → Quasi
+quasi l u = Quasi.quasi l (raw_of u) u
 
-abbrev pub three_node : Expression
-three_node = Expression.number 15 0x4008000000000000
+-- What is asked.
+abbrev pub type_of : Expression → Question
+type_of x = Question.value_type (Part.expression x)
 
-abbrev pub no_text : ℕ → Quasi
-no_text l = Quasi.quasi l [] []
+abbrev pub effects_of : Expression → Question
+effects_of x = Question.effects (Part.expression x)
 
--- a.push(1), of an array a that a host knows nothing of.
-abbrev pub a_name : Expression
-a_name = Expression.name 16 (codes "a")
+abbrev pub global_of : Expression → Question
+global_of x = Question.global (Part.expression x)
 
-abbrev pub a_push : Expression
-a_push = Expression.call 17 (Expression.static_member 18 (Expression.name 19 (codes "a")) (codes "push")) (arguments (one_node ∷ []))
+-- What each rule makes of an expression, and what it asks, where templates and `**` are supported and the first free
+-- number is 10.
+abbrev pub all_supported : Settings
+all_supported = record { templates = true; power = true }
 
-pub record WorkedExamples : Type 0 where
-  -- "".concat(n, n, n, n) is `${n}${n}${n}${n}`
-  pub four_become_a_template : by_method (concat empty_string (arguments (n ∷ n ∷ n ∷ n ∷ [])))
-      ≡ Some (Expression.template 25 (Pieces.piece (no_text 20) n (Pieces.piece (no_text 21) n (Pieces.piece (no_text 22) n (Pieces.piece (no_text 23) n (Pieces.last (no_text 24)))))))
-  -- "".concat(n, n, n, n, n) is kept
-  pub five_are_kept : by_method (concat empty_string (arguments (n ∷ n ∷ n ∷ n ∷ n ∷ []))) ≡ None
-  -- "".concat(p, q) is kept
-  pub p_and_q_do_not_interleave : by_method (concat empty_string (arguments (p ∷ q ∷ []))) ≡ None
+abbrev pub ByChain : Answers → Expression → Option Expression → List Question → Type 0
+ByChain a x y qs = (decided a (chain_rule all_supported 10 Role.ordinary x) ≡ y) × (asked a (chain_rule all_supported 10 Role.ordinary x) ≡ qs)
+
+abbrev pub ByMethod : Answers → Expression → Option Expression → List Question → Type 0
+ByMethod a x y qs = (decided a (method_rule all_supported 10 Role.ordinary x) ≡ y) × (asked a (method_rule all_supported 10 Role.ordinary x) ≡ qs)
+
+abbrev pub ByProperty : Answers → Expression → Option Expression → List Question → Type 0
+ByProperty a x y qs = (decided a (property_rule 10 Role.ordinary x) ≡ y) × (asked a (property_rule 10 Role.ordinary x) ≡ qs)
+
+-- Of the rule chain.
+pub record ChainExamples : Type 0 where
   -- "".concat(p).concat(q) is `${p}${q}`
-  pub p_then_q_do : by_chain (concat (concat empty_string (arguments (p ∷ []))) (arguments (q ∷ [])))
-      ≡ Some (Expression.template 23 (Pieces.piece (no_text 20) p (Pieces.piece (no_text 21) q (Pieces.last (no_text 22)))))
-  -- [].concat(1, [2, , ], p) is [1, 2, , ].concat(p)
-  pub leading_literals_are_taken_in :
-      by_method (concat empty_array (arguments (one_node ∷ Expression.array 6 (Elements.item two_node (Elements.hole 7 Elements.no_elements)) ∷ p ∷ [])))
-      ≡ Some (Expression.call 22 (Expression.static_member 21 (Expression.array 20 (Elements.item one_node (Elements.item two_node (Elements.hole 7 Elements.no_elements)))) (codes "concat")) (arguments (p ∷ [])))
-  -- [].concat(p).concat(q) is kept
-  pub an_array_is_read_first : by_chain (concat (concat empty_array (arguments (p ∷ []))) (arguments (q ∷ []))) ≡ None
-  -- "abc"[2] is "c"
-  pub last_unit : by_property (Expression.computed_member 10 (Expression.string 11 (codes "abc")) two_node) ≡ Some (Expression.string 20 (codes "c"))
-  -- "abc"[3] is void 0
-  pub past_the_end : by_property (Expression.computed_member 10 (Expression.string 11 (codes "abc")) three_node) ≡ Some (void_zero 20)
-  -- [1, 2][2] is kept
-  pub past_the_elements : by_property (Expression.computed_member 10 (Expression.array 11 (Elements.item one_node (Elements.item two_node Elements.no_elements))) two_node) ≡ None
-  -- "".concat(a, a.push(1)) is kept, since it may be an array that a.push(1) changes
-  pub a_change_is_seen : by_method (concat empty_string (arguments (a_name ∷ a_push ∷ []))) ≡ None
-  -- a$ escapes to a\$, and CR to \r
-  pub dollar_escaped : raw_of (codes "a$") ≡ codes "a\\$"
-  pub return_escaped : raw_of (0x0D ∷ []) ≡ codes "\\r"
+  pub two_calls : ByChain knows_nothing (call (call (string []) concat_name (p ∷ [])) concat_name (q ∷ []))
+      (Some (Expression.template 13 (Pieces.piece (quasi 10 []) p (Pieces.piece (quasi 11 []) q (Pieces.last (quasi 12 [])))))) []
+  -- "".concat(p, q).concat() is kept
+  pub one_does_not_interleave : ByChain knows_nothing (call (call (string []) concat_name (p ∷ q ∷ [])) concat_name []) None (type_of p ∷ effects_of q ∷ [])
+  -- "".concat(p, q, p).concat(q, p, q), all numbers, is one call, than which a template is longer
+  pub all_interleave : ByChain all_numbers (call (call (string []) concat_name (p ∷ q ∷ p ∷ [])) concat_name (q ∷ p ∷ q ∷ []))
+      (Some (Expression.call 10 (Expression.static_member 8 (string []) concat_name) (arguments (p ∷ q ∷ p ∷ q ∷ p ∷ q ∷ []))))
+      (type_of p ∷ type_of q ∷ type_of p ∷ type_of q ∷ type_of p ∷ [])
+  -- "".concat(p).concat(q).concat(p).concat(q).concat(p) is a template, which is shorter than five calls
+  pub each_interleaves : ByChain knows_nothing
+      (call (call (call (call (call (string []) concat_name (p ∷ [])) concat_name (q ∷ [])) concat_name (p ∷ [])) concat_name (q ∷ [])) concat_name (p ∷ []))
+      (Some (Expression.template 16 (Pieces.piece (quasi 10 []) p (Pieces.piece (quasi 11 []) q (Pieces.piece (quasi 12 []) p (Pieces.piece (quasi 13 []) q (Pieces.piece (quasi 14 []) p (Pieces.last (quasi 15 [])))))))))
+      (type_of p ∷ effects_of q ∷ [])
+  -- "a".concat().concat("b") is "ab"
+  pub only_strings : ByChain knows_nothing (call (call (string (codes "a")) concat_name []) concat_name (string (codes "b") ∷ [])) (Some (Expression.string 10 (codes "ab"))) []
+  -- [].concat(p).concat(q) is kept, and is one call where p is a number, or an array literal
+  pub array_kept : ByChain knows_nothing (call (call (array []) concat_name (p ∷ [])) concat_name (q ∷ [])) None (type_of p ∷ effects_of q ∷ [])
+  pub array_of_numbers : ByChain all_numbers (call (call (array []) concat_name (p ∷ [])) concat_name (q ∷ []))
+      (Some (Expression.call 10 (Expression.static_member 8 (array []) concat_name) (arguments (p ∷ q ∷ [])))) (type_of p ∷ [])
+  pub array_of_arrays : ByChain knows_nothing (call (call (array []) concat_name (array (p ∷ []) ∷ [])) concat_name (q ∷ []))
+      (Some (Expression.call 10 (Expression.static_member 8 (array []) concat_name) (arguments (array (p ∷ []) ∷ q ∷ [])))) []
+  -- "".concat(p) alone is no chain
+  pub one_call : ByChain knows_nothing (call (string []) concat_name (p ∷ [])) None []
+
+-- Of the rule method.
+pub record MethodExamples : Type 0 where
+  -- "a".concat("b", p, "c") is `ab${p}c`, and "a".concat("b") is "ab"
+  pub strings_join : ByMethod all_numbers (call (string (codes "a")) concat_name (string (codes "b") ∷ p ∷ string (codes "c") ∷ []))
+      (Some (Expression.template 12 (Pieces.piece (quasi 10 (codes "ab")) p (Pieces.last (quasi 11 (codes "c")))))) (type_of (string (codes "b")) ∷ type_of p ∷ [])
+  pub only_strings : ByMethod knows_nothing (call (string (codes "a")) concat_name (string (codes "b") ∷ [])) (Some (Expression.string 10 (codes "ab"))) []
+  -- "".concat(p, p, p, p), all numbers, is a template, and of five it is longer
+  pub four_arguments : ByMethod all_numbers (call (string []) concat_name (p ∷ p ∷ p ∷ p ∷ []))
+      (Some (Expression.template 15 (Pieces.piece (quasi 10 []) p (Pieces.piece (quasi 11 []) p (Pieces.piece (quasi 12 []) p (Pieces.piece (quasi 13 []) p (Pieces.last (quasi 14 []))))))))
+      (type_of p ∷ type_of p ∷ type_of p ∷ [])
+  pub five_arguments : ByMethod all_numbers (call (string []) concat_name (p ∷ p ∷ p ∷ p ∷ p ∷ [])) None []
+  -- "".concat(p, q) is kept
+  pub effects_behind : ByMethod knows_nothing (call (string []) concat_name (p ∷ q ∷ [])) None (type_of p ∷ effects_of q ∷ [])
+  -- [].concat(1, [2, ,], p) is [1, 2, ,].concat(p), by a static member and by a key
+  pub leading_taken : ByMethod knows_nothing
+      (call (array []) concat_name (one ∷ Expression.array 4 (Elements.item two (Elements.hole 3 Elements.no_elements)) ∷ p ∷ []))
+      (Some
+      (Expression.call 12 (Expression.static_member 11 (Expression.array 10 (Elements.item one (Elements.item two (Elements.hole 3 Elements.no_elements)))) concat_name) (arguments (p ∷ [])))) []
+  pub by_key : ByMethod knows_nothing (Expression.call 9 (Expression.computed_member 8 (array []) (string concat_name)) (arguments (one ∷ p ∷ [])))
+      (Some (Expression.call 12 (Expression.computed_member 11 (Expression.array 10 (items (one ∷ []))) (string concat_name)) (arguments (p ∷ [])))) []
+  -- [1].concat([2]) is [1, 2]; [1].concat() is the array itself; [1].concat(p) is kept
+  pub all_taken : ByMethod knows_nothing (call (array (one ∷ [])) concat_name (array (two ∷ []) ∷ [])) (Some (Expression.array 10 (items (one ∷ two ∷ [])))) []
+  pub none_given : ByMethod knows_nothing (call (array (one ∷ [])) concat_name []) (Some (array (one ∷ []))) []
+  pub none_taken : ByMethod knows_nothing (call (array (one ∷ [])) concat_name (p ∷ [])) None []
+  -- Math.pow(p, q) is p ** +q, and p ** q where q is a number; of a Math that may be another it is kept
+  pub power : ByMethod all_global (call (Expression.name 3 math_name) pow_name (p ∷ q ∷ []))
+      (Some (Expression.binary 11 Exponentiation p (Expression.unary 10 Plus q))) (global_of (Expression.name 3 math_name) ∷ type_of q ∷ [])
+  pub power_of_number : ByMethod all_numbers (call (Expression.name 3 math_name) pow_name (p ∷ q ∷ []))
+      (Some (Expression.binary 10 Exponentiation p q)) (global_of (Expression.name 3 math_name) ∷ type_of q ∷ [])
+  pub another_math : ByMethod knows_nothing (call (Expression.name 3 math_name) pow_name (p ∷ q ∷ [])) None (global_of (Expression.name 3 math_name) ∷ [])
+  -- Array.of(p, ...q) is [p, ...q]
+  pub array_of : ByMethod all_global (Expression.call 9 (Expression.static_member 8 (Expression.name 3 array_name) of_name) (Arguments.argument p (Arguments.spread_argument 4 q Arguments.no_arguments)))
+      (Some (Expression.array 10 (Elements.item p (Elements.spread 4 q Elements.no_elements)))) (global_of (Expression.name 3 array_name) ∷ [])
+
+-- Of the rule property.
+pub record PropertyExamples : Type 0 where
+  -- "abc"[2] is "c", and "abc"[3] is void 0
+  pub unit : ByProperty all_numbers (Expression.computed_member 8 (string (codes "abc")) two) (Some (Expression.string 10 (codes "c"))) (effects_of (string (codes "abc")) ∷ [])
+  pub past_end : ByProperty all_numbers (Expression.computed_member 8 (string (codes "abc")) three) (Some (Expression.unary 11 Void (Expression.number 10 0))) (effects_of (string (codes "abc")) ∷ [])
+  -- [1, 2][1] is 2, the element itself, and [1, 2][2] is kept
+  pub element : ByProperty all_numbers (Expression.computed_member 8 (array (one ∷ two ∷ [])) one) (Some two) (effects_of (array (one ∷ two ∷ [])) ∷ [])
+  pub no_element : ByProperty all_numbers (Expression.computed_member 8 (array (one ∷ two ∷ [])) two) None []
+  -- [p, 2][1] is kept, where p may have effects
+  pub effects : ByProperty knows_nothing (Expression.computed_member 8 (array (p ∷ two ∷ [])) one) None (effects_of (array (p ∷ two ∷ [])) ∷ [])
+
+-- All of them.
+abbrev pub RuleExamples : Type 0
+RuleExamples = ChainExamples × MethodExamples × PropertyExamples

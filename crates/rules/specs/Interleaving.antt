@@ -2,8 +2,8 @@
 use Rattle.std.specs.Prelude.{ℕ, ◌+◌, ◌*◌, Bool, true, false, cond, nat_le}
 use Rattle.meaning.specs.Expression.{Arguments}
 use Rattle.meaning.specs.Parts.{Part}
-use Rattle.rules.specs.Deciding.{Deciding, unless_effects, settled}
-use Rattle.rules.specs.Interleaves.{argument_count, string_count, expression_count}
+use Rattle.rules.specs.Deciding.{Deciding, unless_effects}
+use Rattle.rules.specs.Interleaves.{settled, argument_count, string_count, expression_count}
 
 -- Is no argument a spread? oxc_minifier's `string_concat_can_interleave`; here it is seen before anything is asked.
 unfoldable pub no_spread : Arguments → Bool
@@ -11,7 +11,7 @@ no_spread Arguments.no_arguments = true
 no_spread (Arguments.argument x xs) = no_spread xs
 no_spread (Arguments.spread_argument l x xs) = false
 
--- Is the list at its end? (A notion of ours.)
+-- Is the list at its end? (No origin: a notion of ours.)
 unfoldable pub none_left : Arguments → Bool
 none_left Arguments.no_arguments = true
 none_left (Arguments.argument x xs) = false
@@ -24,8 +24,8 @@ all_quiet Arguments.no_arguments d e = d
 all_quiet (Arguments.argument x xs) d e = Deciding.ask_effects (Part.expression x) (λ b. unless_effects b (all_quiet xs d e) e)
 all_quiet (Arguments.spread_argument l x xs) d e = e
 
--- One decision if the arguments interleave, and another else. The type of the last one does not matter, and is not asked.
--- oxc_minifier's `string_concat_can_interleave`.
+-- One decision if the arguments interleave, and another else. The type of the last one does not matter, and is not
+-- asked. oxc_minifier's `string_concat_can_interleave`.
 unfoldable pub interleaving : Arguments → Deciding → Deciding → Deciding
 interleaving Arguments.no_arguments d e = d
 interleaving (Arguments.argument x xs) d e = cond (none_left xs) d (Deciding.ask_type (Part.expression x) (λ t. cond (settled t) (interleaving xs d e) (all_quiet xs d e)))

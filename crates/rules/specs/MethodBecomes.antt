@@ -7,24 +7,16 @@ use Rattle.host.specs.declared.value_type.ValueType.TheVariants.{Number}
 use Rattle.meaning.specs.Expression.{Expression, Elements, Arguments, Units}
 use Rattle.meaning.specs.Methods.{concat_name, pow_name, of_name, math_name, array_name}
 use Rattle.meaning.specs.Parts.{Part}
-use Rattle.rules.specs.Deciding.{Role, Settings}
+use Rattle.rules.specs.Places.{Role, Settings, IsOutermost}
 use Rattle.rules.specs.Facts.{Facts}
-use Rattle.rules.specs.Building.{elements_of, append_elements, joined}
+use Rattle.rules.specs.Building.{elements_of, append_elements, joined, with_object}
 use Rattle.rules.specs.Interleaves.{Interleaves, Short, argument_count}
-use Rattle.rules.specs.Taking.{Takes}
-use Rattle.rules.specs.Method.{with_object}
+use Rattle.rules.specs.Takes.{Takes}
 
 -- A callee names a method of an object: by a static member, or by a string node as key. ECMA-262, "Property Accessors".
 pub data Method : Expression → Expression → Units → Type 0 where
   static : {m : ℕ} {o : Expression} {k : Units} → Method (Expression.static_member m o k) o k
   keyed : {m i : ℕ} {o : Expression} {k : Units} → Method (Expression.computed_member m o (Expression.string i k)) o k
-
--- A place that is not the object of a static member `concat`. oxc_minifier's `try_fold_concat`, by which an outer call of
--- `concat` goes first.
-abbrev pub IsOutermost : Role → Type 0
-IsOutermost Role.ordinary = Unit {0}
-IsOutermost Role.concat_object = ⊥
-IsOutermost Role.referred = Unit {0}
 
 -- The four known methods. ECMA-262, "String.prototype.concat", "Array.prototype.concat", "Math.pow" and "Array.of";
 -- oxc_minifier's `try_fold_concat`, `try_fold_pow` and `try_fold_array_of`.

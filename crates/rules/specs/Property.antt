@@ -1,14 +1,11 @@
 -- The rule property: a string or an array literal at an index.
-use Rattle.std.specs.Prelude.{ℕ, zero, suc, ◌+◌, [], ◌∷◌, Some, None, Option, nat_le}
-use Rattle.tree.specs.declared.node.UnaryOperator.TheVariants.{Void}
+use Rattle.std.specs.Prelude.{ℕ, zero, suc, [], ◌∷◌, Some, None, Option, nat_le}
 use Rattle.meaning.specs.Expression.{Expression, Elements, Units}
 use Rattle.meaning.specs.Number.{Number, whole}
 use Rattle.meaning.specs.Parts.{Part}
-use Rattle.rules.specs.Deciding.{Deciding, Role, when, unless_effects}
-
--- `void 0`, two new nodes. oxc_minifier's `new_void_0`, and ECMA-262, "The void Operator".
-abbrev pub void_zero : ℕ → Expression
-void_zero next = Expression.unary (next + 1) Void (Expression.number next 0)
+use Rattle.rules.specs.Places.{Role}
+use Rattle.rules.specs.Deciding.{Deciding, when, unless_effects}
+use Rattle.rules.specs.Building.{void_zero}
 
 -- The one unit at an index as a string, or `void 0` past the end. oxc_minifier's `try_fold_integer_index_access`.
 unfoldable pub unit_or_void : ℕ → Units → ℕ → Expression

@@ -3,8 +3,8 @@ use Rattle.std.specs.Prelude.{ℕ, ◌+◌}
 use Rattle.meaning.specs.Expression.{Expression, Elements, Arguments, Pieces, Children}
 
 unfoldable mutual
-  -- A member or a call counts one, and each entry of a call's argument list, a spread too. (A notion of ours; ECMA-262,
-  -- "Property Accessors", "Function Calls" and "Argument Lists".)
+  -- A member or a call counts one, and each entry of a call's argument list, a spread too. (No origin: a notion of
+  -- ours; ECMA-262, "Property Accessors", "Function Calls" and "Argument Lists".)
   pub size : Expression → ℕ
   size (Expression.string l u) = 0
   size (Expression.number l n) = 0

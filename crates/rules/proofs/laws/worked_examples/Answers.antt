@@ -1,5 +1,5 @@
-use Rattle.rules.proofs.Examples.{computed}
+use Rattle.rules.proofs.WorkedComputed.{worked}
 use Rattle.rules.proofs.laws.worked_examples.Goals as goal
 
 pub returns : goal.returns
-returns c = computed
+returns c = worked
