@@ -16,6 +16,18 @@ pub enum Fault {
     BadRecord(u32),
     #[error("the root is wrong, or node {0} has a wrong link or a wrong number of parents")]
     BadLink(u32),
+    #[error("node {0} has no such child")]
+    NoChild(u32),
+    #[error("the path to node {0} is too long to go further")]
+    PathFull(u32),
+    #[error("node {0} is the root")]
+    AtRoot(u32),
+    #[error("there is no space for the nodes that are to replace node {0}")]
+    NodesFull(u32),
+    #[error("there is no space for the lists of what is to replace node {0}")]
+    EntriesFull(u32),
+    #[error("there is no space for the texts of what is to replace node {0}")]
+    TextFull(u32),
     #[error("the text is unlawful, or the raw template text malformed")]
     Malformed,
     #[error("the output is too small")]
@@ -33,6 +45,12 @@ impl Fault {
             Fault::StoresTooSmall => 3,
             Fault::BadRecord(_) => 4,
             Fault::BadLink(_) => 5,
+            Fault::NoChild(_) => 6,
+            Fault::PathFull(_) => 7,
+            Fault::AtRoot(_) => 8,
+            Fault::NodesFull(_) => 9,
+            Fault::EntriesFull(_) => 10,
+            Fault::TextFull(_) => 11,
             Fault::Malformed => 12,
             Fault::Overfull => 13,
         }
@@ -48,7 +66,11 @@ impl Fault {
             | Fault::BadSizes
             | Fault::StoresTooSmall
             | Fault::BadRecord(_)
-            | Fault::BadLink(_) => 2,
+            | Fault::BadLink(_)
+            | Fault::NodesFull(_)
+            | Fault::EntriesFull(_)
+            | Fault::TextFull(_) => 2,
+            Fault::NoChild(_) | Fault::PathFull(_) | Fault::AtRoot(_) => 3,
         }
     }
 
@@ -58,6 +80,8 @@ impl Fault {
     {
         match self {
             Fault::BadRecord(node) | Fault::BadLink(node) => node,
+            Fault::NoChild(node) | Fault::PathFull(node) | Fault::AtRoot(node) => node,
+            Fault::NodesFull(node) | Fault::EntriesFull(node) | Fault::TextFull(node) => node,
             Fault::BadHeader | Fault::BadSizes | Fault::StoresTooSmall => 0,
             Fault::Malformed | Fault::Overfull => 0,
         }
