@@ -29,7 +29,7 @@ abbrev pub EscapeWalk : {S : Type 0} (Took : S → List ℕ → S → Type 0) (s
 EscapeWalk Took start text rest led now =
     (done : List ℕ) × (encodes done ++ rest ≡ text) × Canonical false done × (led ≡ ends false done) × Adds Took start (encodes (escapes done)) now
 
-escapes_append : (cs ds : List ℕ) → escapes (cs ++ ds) ≡ escapes cs ++ escapes ds
+pub escapes_append : (cs ds : List ℕ) → escapes (cs ++ ds) ≡ escapes cs ++ escapes ds
 escapes_append [] ds = refl
 escapes_append (c ∷ cs) ds = ap (λ l. escaped c ++ l) (escapes_append cs ds) ∙ sym (append_assoc (escaped c) (escapes cs) (escapes ds))
 

@@ -36,7 +36,7 @@ surrogate : (c : ℕ) → 0xD800 ≤ c → c < 0xE000 → (leading c || trailing
 surrogate c l h =
     ⊎_elim (λ low. or_left (leading c) (trailing c) (is_leading c l low)) (λ up. or_right (leading c) (trailing c) (is_trailing c up h)) (cases_lt c 0xDC00)
 
-surrogate_escaped : (c : ℕ) → 0xD800 ≤ c → c < 0xE000 → escaped c ≡ 0x5C ∷ 0x75 ∷ four_digits c
+pub surrogate_escaped : (c : ℕ) → 0xD800 ≤ c → c < 0xE000 → escaped c ≡ 0x5C ∷ 0x75 ∷ four_digits c
 surrogate_escaped c l h =
     unmarked c (ne_eqb c 0x5C (λ e. omega arith)) (ne_eqb c 0x60 (λ e. omega arith)) (ne_eqb c 0x24 (λ e. omega arith)) (ne_eqb c 0x0D (λ e. omega arith))
     ∙ cond-true (leading c || trailing c) _ _ (surrogate c l h)
@@ -49,6 +49,17 @@ itself_escaped : (c : ℕ) → Itself c → escaped c ≡ c ∷ []
 itself_escaped c p =
     unmarked c p.no_slash p.no_tick p.no_dollar p.no_cr
     ∙ cond-false (leading c || trailing c) _ _ (no_surrogate_tests c p.no_surrogate)
+
+-- A code point above 0xFFFF stands for itself.
+pub itself_above : (c : ℕ) → 0x10000 ≤ c → escaped c ≡ c ∷ []
+itself_above c l =
+    itself_escaped c record {
+      no_slash = ne_eqb c 0x5C (λ e. omega arith);
+      no_tick = ne_eqb c 0x60 (λ e. omega arith);
+      no_dollar = ne_eqb c 0x24 (λ e. omega arith);
+      no_cr = ne_eqb c 0x0D (λ e. omega arith);
+      no_surrogate = inr (omega arith);
+    }
 
 -- A code point by its escape.
 pub data Form (c : ℕ) : Type 0 where

@@ -7,6 +7,7 @@ pub mod CookWalk
 pub mod EscapeValues
 pub mod Escapes
 pub mod Filling
+pub mod Extents
 pub mod First
 pub mod Fronting
 pub mod Hex

@@ -3,6 +3,7 @@ pub mod Comparing
 pub mod Cooked
 pub mod Cooking
 pub mod Escaped
+pub mod Extent
 pub mod Fronts
 pub mod Grammar
 pub mod Laws

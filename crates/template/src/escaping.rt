@@ -49,8 +49,8 @@ fn escape_character<S: Sink>(sink: &mut S, c: Character<'_>)
 
 // A stored text, which is handed on escaped.
 #[derive(Clone, Copy)]
-struct StoredText<'a> {
-    text: &'a [u8],
+pub(crate) struct StoredText<'a> {
+    pub(crate) text: &'a [u8],
 }
 
 impl Walk for StoredText<'_> {

@@ -5,6 +5,7 @@
 mod comparing;
 mod cooking;
 mod escaping;
+mod extent;
 mod laws;
 mod output;
 mod raw;
@@ -14,6 +15,7 @@ mod walk;
 pub use comparing::cooks_to;
 pub use cooking::cook;
 pub use escaping::escape;
+pub use extent::Extent;
 pub use laws::{
     cooking_is_one, escape_examples, escaped_text_cooks_back, whole_cooks_as_its_parts,
 };

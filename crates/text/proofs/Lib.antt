@@ -1,3 +1,4 @@
+pub mod Borders
 pub mod Decoding
 pub mod Pairing
 pub mod Rejoin

@@ -18,7 +18,7 @@ before_more u c cs ds =
     (cases_Bool (leading u && trailing c))
 
 -- A text with a unit has a code point.
-some_point : (u : ℕ) (cs : List ℕ) → (c : ℕ) × (ds : List ℕ) × (before u cs ≡ c ∷ ds)
+pub some_point : (u : ℕ) (cs : List ℕ) → (c : ℕ) × (ds : List ℕ) × (before u cs ≡ c ∷ ds)
 some_point u [] = (u, [], refl)
 some_point u (c ∷ cs) =
     ⊎_elim
@@ -45,7 +45,8 @@ before_apart u (v ∷ vs) e = ⊎_elim (before_plain u (before v (points vs))) (
         ∙ ap (λ l. u ∷ l) (sym (cond-false (leading v && trailing c) (paired v c ∷ cs) (v ∷ c ∷ cs) p)))
         (cases_Bool (leading v && trailing c))
 
-points_append : (us vs : List ℕ) → (ends false us && begins_trailing vs) ≡ false → points (us ++ vs) ≡ points us ++ points vs
+-- The code points of two texts, where no pair meets.
+pub points_append : (us vs : List ℕ) → (ends false us && begins_trailing vs) ≡ false → points (us ++ vs) ≡ points us ++ points vs
 points_append [] vs e = refl
 points_append (u ∷ []) vs e = before_apart u vs e
 points_append (u ∷ w ∷ us) vs e =
@@ -55,17 +56,23 @@ points_append (u ∷ w ∷ us) vs e =
     ∙ before_more u k.0 k.1 (points vs)
     ∙ ap (λ l. before u l ++ points vs) (sym k.2)
 
+-- A pair that meets is one code point.
+pub points_pair : (us vs : List ℕ) (h l : ℕ) → leading h ≡ true → trailing l ≡ true → points ((us ++ h ∷ []) ++ l ∷ vs) ≡ points us ++ paired h l ∷ points vs
+points_pair us vs h l p q =
+    let a = leading_range h p in
+    let b = trailing_range l q in
+    ap points (append_assoc us (h ∷ []) (l ∷ vs))
+    ∙ points_append us (h ∷ l ∷ vs) (and_right (ends false us) (trailing h) (not_trailing_below h (omega arith)))
+    ∙ ap (λ cs. points us ++ before h cs) (before_plain l (points vs) (not_leading_above l (omega arith)))
+    ∙ ap (λ cs. points us ++ cs) (before_pair h l (points vs) p q)
+
 stored_append : (us vs : List ℕ) → (ends false us && begins_trailing vs) ≡ false → stored (us ++ vs) ≡ stored us ++ stored vs
 stored_append us vs e = ap encodes (points_append us vs e) ∙ encodes-append (points us) (points vs)
 
 stored_pair : (us vs : List ℕ) (h l : ℕ) → leading h ≡ true → trailing l ≡ true → stored ((us ++ h ∷ []) ++ l ∷ vs) ≡ stored us ++ encode (paired h l) ++ stored vs
 stored_pair us vs h l p q =
-    let a = leading_range h p in
-    let b = trailing_range l q in
-    ap stored (append_assoc us (h ∷ []) (l ∷ vs))
-    ∙ stored_append us (h ∷ l ∷ vs) (and_right (ends false us) (trailing h) (not_trailing_below h (omega arith)))
-    ∙ ap (λ cs. stored us ++ encodes (before h cs)) (before_plain l (points vs) (not_leading_above l (omega arith)))
-    ∙ ap (λ cs. stored us ++ encodes cs) (before_pair h l (points vs) p q)
+    ap encodes (points_pair us vs h l p q)
+    ∙ encodes-append (points us) (paired h l ∷ points vs)
     ∙ sym (append_assoc (stored us) (encode (paired h l)) (stored vs))
 
 pub joins_as_units : JoinsAsUnits

@@ -38,7 +38,7 @@ fn two(a: u8, b: u8) -> Option<u32>
 }
 
 // The code point in three bytes.
-fn three(a: u8, b: u8, c: u8) -> Option<u32>
+pub(crate) fn three(a: u8, b: u8, c: u8) -> Option<u32>
     ensures { MatchOption result ((x : ℕ) → Three a b c x → ⊥) (Three a b c) }
 {
     let code = match (a, b, c) {

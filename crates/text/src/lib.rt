@@ -4,6 +4,7 @@
 
 mod character;
 mod decode;
+mod edges;
 mod encoded;
 mod joining;
 mod laws;
@@ -14,6 +15,7 @@ mod units;
 
 pub use character::Character;
 pub use decode::{character_len, first_character};
+pub use edges::{first_trailing, last_leading};
 pub use encoded::Encoded;
 pub use joining::join;
 pub use laws::{joining_stored_texts_joins_units, stored_form_and_units_determine_each_other};

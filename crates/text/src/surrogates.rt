@@ -24,6 +24,13 @@ pub fn leading_of(code: u32) -> Option<u32>
     if is_leading(code) { Some(code) } else { None }
 }
 
+// The code, if it is a trailing surrogate.
+pub(crate) fn trailing_of(code: u32) -> Option<u32>
+    ensures { MatchOption result (trailing code ≡ false) (λ l. (l ≡ code) × (trailing code ≡ true)) }
+{
+    if is_trailing(code) { Some(code) } else { None }
+}
+
 // The code point that a leading and a trailing surrogate spell together.
 pub fn pair(lead: u32, trail: u32) -> Option<u32>
     ensures { MatchOption result ((leading lead && trailing trail) ≡ false) (λ c. (leading lead ≡ true) × (trailing trail ≡ true) × (c ≡ paired lead trail)) }
