@@ -21,6 +21,8 @@ use Rattle.file.specs.Lawful.{Contents, LawfulFile, Fits, LawfulRecord, size_que
 use Rattle.file.specs.Found.{laid, AllRecords}
 use Rattle.file.specs.Steps.{CutsInto, FitsIn, AllLinks, Checked, CopiesTo}
 use Rattle.file.proofs.Words.{length_words}
+use Rattle.file.proofs.Counted.{limited as within_limits}
+use Rattle.tree.specs.Limits.{WithinLimits}
 use Rattle.file.proofs.Granting.{held_lawful}
 use Rattle.file.proofs.TreeOf.{payoff_of}
 
@@ -88,6 +90,9 @@ module _ (file : List ℕ) (old new : Stores) (r : Records) (k : Checked file (r
 
     top : r.sections.root ≡ root file
     top = ap (λ l. l.top) k.5
+
+    pub limited : WithinLimits (held_of new)
+    limited = within_limits file (held_of new) lawful
 
     pub payoff : IsPayoffRoot (held_of new) r.sections.root
     payoff = subst (IsPayoffRoot (held_of new)) (sym top) (payoff_of (held_of new) (root file) lawful.lawful)

@@ -4,14 +4,15 @@ use Rattle.std.specs.List.{slice_get}
 use Rattle.std.proofs.lemmas.List.{ext_get_or, get_or_past}
 use Rattle.std.proofs.lemmas.Bool.{cases_lt}
 use Rattle.tree.specs.Heap.{Held, cut}
-use Rattle.tree.proofs.Cuts.{length_cut, getD_cut}
+use Rattle.tree.proofs.Cuts.{getD_cut}
 use Rattle.file.specs.declared.record.Record.{Record}
 use Rattle.file.specs.Format.{word, words, record_at, records}
 use Rattle.file.specs.Layout.{layout, node_count, node_offset, entry_count, entry_offset, text_count, text_offset}
 use Rattle.file.specs.Lawful.{LawfulFile}
 use Rattle.file.specs.Laws.{Bytes, SameContentsSameFile}
-use Rattle.file.proofs.Contained.{how_many, nth_records}
-use Rattle.file.proofs.Words.{length_words, nth_words}
+use Rattle.file.proofs.Contained.{nth_records}
+use Rattle.file.proofs.Counted.{nodes_counted, entries_counted, text_counted}
+use Rattle.file.proofs.Words.{nth_words}
 
 -- Two lists have the same byte, or the same word, at a place.
 abbrev SameByte : List ℕ → List ℕ → ℕ → Type 0
@@ -83,17 +84,6 @@ module _ (xs ys : List ℕ) (bx : Bytes xs) (by : Bytes ys) where
           let g : SameWord xs ys (4 * (0 + j)) = cc in
           let z : 4 * (0 + j) ≡ 0 + 4 * j = omega arith in
           subst (SameWord xs ys) z g
-
--- The counts of a lawful file are those of what it holds.
-module _ (file : List ℕ) (h : Held) (f : LawfulFile file h) where
-  nodes_counted : length h.nodes ≡ node_count file
-  nodes_counted = how_many (layout file) h f.contents
-
-  entries_counted : length h.entries ≡ entry_count file
-  entries_counted = ap length f.contents.listed ∙ length_words (cut file (entry_offset file) (4 * entry_count file)) 0 (entry_count file)
-
-  text_counted : length h.text ≡ text_count file
-  text_counted = ap length f.contents.texted ∙ length_cut file (text_offset file) (text_count file) (omega arith)
 
 -- Two lawful files that hold the same.
 module _ (file other : List ℕ) (h : Held) (bf : Bytes file) (bo : Bytes other) (f : LawfulFile file h) (g : LawfulFile other h) where

@@ -2,6 +2,7 @@ pub mod Answering
 pub mod Asked
 pub mod Chunks
 pub mod Contained
+pub mod Counted
 pub mod Copied
 pub mod Cutting
 pub mod Determined

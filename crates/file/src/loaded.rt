@@ -1,6 +1,7 @@
 // What loading a file answers.
 ghost use Rattle.std.specs.Prelude.{◌≡◌};
 ghost use Rattle.store.specs.Stores.{held_of};
+ghost use Rattle.tree.specs.Limits.{WithinLimits};
 ghost use Rattle.file.specs.Payoff.{IsPayoffRoot};
 
 use base::Fault;
@@ -10,12 +11,13 @@ mod loading;
 
 pub use loading::load;
 
-// Stores that hold the tree of a payoff, and the number of its root. Only `load` makes them.
+// Stores that hold the tree of a payoff, within the limits, and the number of its root. Only `load` makes them.
 #[derive(Drop)]
 pub struct Loaded<'a> {
     stores: Stores<'a>,
     root: u32,
     ghost payoff: { ∥ IsPayoffRoot (held_of stores) root ∥₁ },
+    ghost limited: { WithinLimits (held_of stores) },
 }
 
 // Why a file was refused, and the stores, as they were.

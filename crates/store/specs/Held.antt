@@ -2,6 +2,7 @@
 use Rattle.std.specs.Prelude.{◌≡◌, ℕ, ◌+◌, ◌≤◌, List, [], ◌∷◌, ◌++◌, length, take, drop, Ok, Err, Result}
 use Rattle.base.specs.declared.fault.Fault.{Fault}
 use Rattle.base.specs.Questions.{Refuses}
+use Rattle.tree.specs.Heap.{cut}
 use Rattle.store.specs.declared.store.Store.{Store}
 
 -- The whole memory, and how many items it has.
@@ -23,3 +24,12 @@ Refilled old xs new = (held new ≡ xs) × (lent new ≡ xs ++ drop (length xs) 
 abbrev pub AppendsTo : {T : Type 0} → (old : Store T) (more : List T) (new : Store T) → Result (Unit {0}) Fault → Type 0
 AppendsTo old more new (Ok u) = Refilled old (held old ++ more) new × (length (held old) + length more ≤ room old)
 AppendsTo old more new (Err e) = (held new ≡ held old) × (lent new ≡ lent old) × Refuses (((13, 0), length (held old) + length more ≤ room old) ∷ []) e
+
+-- Appending what is held already: the `len` items from `start` on, behind all that was held; or nothing, where they are
+-- not all held, or for want of room. (No origin: a notion of ours.)
+abbrev pub AppendsWithin : {T : Type 0} → (old : Store T) (start len : ℕ) (new : Store T) → Result (Unit {0}) Fault → Type 0
+AppendsWithin old start len new (Ok u) =
+    Refilled old (held old ++ cut (held old) start len) new × (start + len ≤ length (held old)) × (length (held old) + len ≤ room old)
+AppendsWithin old start len new (Err e) =
+    (held new ≡ held old) × (lent new ≡ lent old)
+    × Refuses (((13, 0), (start + len ≤ length (held old)) × (length (held old) + len ≤ room old)) ∷ []) e

@@ -1,7 +1,8 @@
 -- The three stores, and what is read from them.
-use Rattle.std.specs.Prelude.{◌≡◌, ℕ, true, length, Some, None, Option}
+use Rattle.std.specs.Prelude.{◌≡◌, ℕ, true, length, is_some, Some, None, Option}
+use Rattle.std.specs.List.{slice_get}
 use Rattle.tree.specs.declared.node.Node.{Node}
-use Rattle.tree.specs.Tree.{Tree, label, own_of, below, labels, Denotes}
+use Rattle.tree.specs.Tree.{Tree, label, own_of, below, labels, Denotes, children_of}
 use Rattle.tree.specs.Heap.{Held, look, own, children, inside}
 use Rattle.store.specs.declared.stores.Stores.{Stores}
 use Rattle.store.specs.declared.stores.Counts.{Counts}
@@ -25,3 +26,7 @@ ShowsTop h (Some n) t =
 
 abbrev pub Shows : Held → ℕ → Option Node → Type 0
 Shows h x r = (t : Tree) → label t ≡ x → Denotes (look h) t → ShowsTop h r t
+
+-- Where something is stored at x, its child k.
+abbrev pub ShowsChild : Held → (x k : ℕ) → Option ℕ → Type 0
+ShowsChild h x k child = is_some (look h x) ≡ true → child ≡ slice_get (children_of (look h x)) k

@@ -1,4 +1,4 @@
-ghost use Rattle.std.specs.Prelude.{◌≡◌, ◌≤◌, [], length};
+ghost use Rattle.std.specs.Prelude.{◌≡◌, ◌-◌, ◌≤◌, [], length, take, slice_set};
 ghost use Rattle.std.specs.List.{slice_get};
 
 use base::{Fault, append};
@@ -12,7 +12,7 @@ pub struct Store<'a, T> {
 }
 
 impl<'a, T: Copy> Store<'a, T> {
-    ghost use Rattle.store.specs.Held.{lent, held, room, AppendsTo};
+    ghost use Rattle.store.specs.Held.{lent, held, room, Refilled, AppendsTo, AppendsWithin};
 
     // An empty store within the slice.
     pub fn new(items: &'a mut [T]) -> Store<'a, T>
@@ -50,6 +50,15 @@ impl<'a, T: Copy> Store<'a, T> {
         self.items().get(i).copied()
     }
 
+    // Puts an item in the place of the one at i, if the store holds one there.
+    pub fn set(&mut self, i: usize, item: T)
+        ensures { Refilled self.old (slice_set (held self.old) i item) self.new }
+    {
+        if i < self.len {
+            self.items[i] = item;
+        }
+    }
+
     // Holds nothing from now on. The memory stays as it is.
     pub fn clear(&mut self)
         ensures empty { held self.new ≡ [] }
@@ -64,5 +73,25 @@ impl<'a, T: Copy> Store<'a, T> {
     {
         self.len = append(self.items, self.len, more)?;
         Ok(())
+    }
+
+    // Appends the `len` items from `start` on, which the store holds itself, or refuses them all.
+    pub fn append_within(&mut self, start: usize, len: usize) -> Result<(), Fault>
+        ensures { AppendsWithin self.old start len self.new result }
+    {
+        if start > self.len || len > self.len - start || len > self.items.len() - self.len {
+            return Err(Fault::Overfull);
+        }
+        self.items.copy_within(start..start + len, self.len);
+        self.len += len;
+        Ok(())
+    }
+
+    // Holds `count` items less from now on, or nothing if it holds fewer. The memory stays as it is.
+    pub fn shorten(&mut self, count: usize)
+        ensures fewer { held self.new ≡ take (length (held self.old) - count) (held self.old) }
+        ensures memory { lent self.new ≡ lent self.old }
+    {
+        self.len = self.len.saturating_sub(count);
     }
 }

@@ -1,9 +1,11 @@
 ghost use Rattle.std.specs.Prelude.{◌≡◌};
 ghost use Rattle.std.specs.List.{slice_get};
+ghost use Rattle.tree.specs.Heap.{relinked};
 ghost use Rattle.tree.specs.Pieces.{PieceOf};
+ghost use Rattle.store.specs.Held.{Refilled};
 
 use super::store::Store;
-use tree::{ListRun, Node, TextRun};
+use tree::{Child, ListRun, Node, TextRun};
 
 // The three stores of a payoff's tree.
 #[derive(Drop)]
@@ -22,7 +24,7 @@ pub struct Counts {
 }
 
 impl<'a> Stores<'a> {
-    ghost use Rattle.store.specs.Stores.{held_of, counts_of, rooms_of, Shows};
+    ghost use Rattle.store.specs.Stores.{held_of, counts_of, rooms_of, Shows, ShowsChild};
 
     // How much the stores hold.
     pub fn counts(&self) -> Counts
@@ -66,5 +68,34 @@ impl<'a> Stores<'a> {
         ensures { PieceOf (held_of self.now).text run.start run.len result }
     {
         run.of(self.text.items())
+    }
+
+    // The number of the node's child k, links before list: where something is stored at n, that of its children.
+    pub fn child(&self, n: u32, k: u32) -> Option<u32>
+        ensures { ShowsChild (held_of self.now) n k result }
+    {
+        let node = self.node(n)?;
+        match node.child(k as usize)? {
+            Child::Link(child) => Some(child),
+            Child::Entry(i) => self.entries.get(i),
+        }
+    }
+
+    // Changes the link to a child of the node n to another number.
+    pub fn relink(&mut self, n: u32, child: u32, to: u32)
+        ensures nodes { Refilled self.old.nodes (relinked (held_of self.old) n child to).nodes self.new.nodes }
+        ensures entries { Refilled self.old.entries (relinked (held_of self.old) n child to).entries self.new.entries }
+        ensures text { self.new.text ≡ self.old.text }
+    {
+        let Some(node) = self.node(n) else {
+            return;
+        };
+        match node.child(child as usize) {
+            Some(Child::Link(_)) => self
+                .nodes
+                .set(n as usize, node.with_link(child as usize, to)),
+            Some(Child::Entry(i)) => self.entries.set(i, to),
+            None => {}
+        }
     }
 }

@@ -61,8 +61,9 @@ mutual
   weighs_total n w (more t ts) low =
       omega (arith, total_split n (λ x. uses x t) (λ x. uses_all x ts) w, weigh_total n w t (λ x u. low x (omega arith)), weighs_total n w ts (λ x u. low x (omega arith)))
 
+-- One number of a tree weighs no more than the tree.
 mutual
-  one : (w : ℕ → ℕ) (x : ℕ) (t : Tree) → 1 ≤ uses x t → w x ≤ weigh w t
+  pub one : (w : ℕ → ℕ) (x : ℕ) (t : Tree) → 1 ≤ uses x t → w x ≤ weigh w t
   one w x (tree l o ts) u = elim (cases_eq x l) [ inl e ↦ omega (arith, ap w e) | inr n ↦ omega (arith, ones w x ts (omega (arith, same_other x l n))) ]
 
   ones : (w : ℕ → ℕ) (x : ℕ) (ts : Trees) → 1 ≤ uses_all x ts → w x ≤ weigh_all w ts

@@ -7,3 +7,4 @@ pub mod Judging
 pub mod Places
 pub mod Records
 pub mod Relinking
+pub mod Hanging

@@ -1,5 +1,6 @@
 pub mod Tree
 pub mod Heap
+pub mod Limits
 pub mod Lawful
 pub mod Pieces
 pub mod Roles

@@ -74,7 +74,7 @@ pub enum Node {
 }
 
 impl Node {
-    ghost use Rattle.tree.specs.Heap.{links, list_of};
+    ghost use Rattle.tree.specs.Heap.{links, list_of, with_link};
     ghost use Rattle.tree.specs.Roles.{sort_of_node, role_of_node, linked_by, NamesChild};
 
     // What the node is to its parent.
@@ -134,6 +134,41 @@ impl Node {
             Some(Child::Entry(list.start as usize + k))
         } else {
             None
+        }
+    }
+
+    // The record with its link k changed.
+    pub fn with_link(self, k: usize, to: u32) -> Node
+        ensures { result ≡ with_link self k to }
+    {
+        match self {
+            Node::Spread(_) => Node::Spread(to),
+            Node::StaticMember { name, .. } => Node::StaticMember { object: to, name },
+            Node::ComputedMember { key, .. } if k == 0 => Node::ComputedMember { object: to, key },
+            Node::ComputedMember { object, .. } => Node::ComputedMember { object, key: to },
+            Node::Call { arguments, .. } => Node::Call {
+                callee: to,
+                arguments,
+            },
+            Node::Unary { operator, .. } => Node::Unary {
+                operator,
+                operand: to,
+            },
+            Node::Binary {
+                operator,
+                right,
+                ..
+            } if k == 0 => Node::Binary {
+                operator,
+                left: to,
+                right,
+            },
+            Node::Binary { operator, left, .. } => Node::Binary {
+                operator,
+                left,
+                right: to,
+            },
+            _ => self,
         }
     }
 
