@@ -26,7 +26,7 @@ module _ (f : Facts) (s : Settings) (next : ℕ) (r : Role) where
   string_no_member {u = u} {xss = xss} (StringLed.template t e h) = template_no_member next (pieces_of next u (flat xss))
   string_no_member (StringLed.call i h) = tt
 
-  led_no_member : {x y : Expression} → ChainLed f s next r x y → NoMember x × NoMember y
+  pub led_no_member : {x y : Expression} → ChainLed f s next r x y → NoMember x × NoMember y
   led_no_member (ChainLed.of_string d t o h) = (calls_no_member d, string_no_member h)
   led_no_member (ChainLed.of_array d t o i) = (calls_no_member d, tt)
 

@@ -10,7 +10,7 @@ use Rattle.meaning.specs.Expression.{Expression, Elements, Arguments, Quasi, Pie
 use Rattle.meaning.specs.Trees.{tree_of, quasi_tree, element_trees, argument_trees, piece_trees, child_trees}
 use Rattle.rules.specs.Lawful.{LawfulQuasi, LawfulExpression, LawfulElements, LawfulArguments, LawfulPieces, LawfulChildren, ALawfulExpressionIsAPayoff}
 
-sort_is : (x : Expression) → sort_of (own_of (tree_of x)) ≡ IsExpression
+pub sort_is : (x : Expression) → sort_of (own_of (tree_of x)) ≡ IsExpression
 sort_is (Expression.string l u) = refl
 sort_is (Expression.number l n) = refl
 sort_is (Expression.boolean l b) = refl

@@ -98,7 +98,7 @@ module _ (w : World) where
       let g : (mean w c (Expression.array i xs)).run s (Result.gives (Value.array b.0)) s = in_mode w c _ s _ (subst (λ v. Calm w (Expression.array i xs) s v) b.2 a.1) in
       (slot_at w b.0 k, array_read p c m i j n k xs e l s b.0 g, subst (λ v. (mean w c y).run s (Result.gives v) s) (sym d.2) (in_mode w c _ s _ d.1))))
 
-fits_value : (r : Role) (x y : Expression) → TakesValue r → Fits r x y
+pub fits_value : (r : Role) (x y : Expression) → TakesValue r → Fits r x y
 fits_value Role.ordinary x y h = tt
 fits_value Role.concat_object x y h = tt
 fits_value Role.referred x y h = absurd h

@@ -16,6 +16,7 @@ pub mod Size
 pub mod Laws
 pub mod Numbering
 pub mod Lawful
+pub mod Space
 pub mod Pairs
 pub mod Examples
 pub mod WorkedExamples
