@@ -17,7 +17,8 @@ use Rattle.meaning.specs.Parts.{Part}
 use Rattle.rules.specs.Method.{Callee, callee_of, keyed}
 use Rattle.deciding.specs.Standing.{Stands}
 use Rattle.deciding.specs.Method.{FindsMethod}
-use Rattle.deciding.proofs.Records.{Read, recorded, read_there}
+use Rattle.host.proofs.Knowing.{false_true}
+use Rattle.deciding.proofs.Records.{same_expression, Read, recorded, read_there}
 
 abbrev pub is_member : Own → Bool
 is_member (static_member p) = true
@@ -27,9 +28,6 @@ is_member o = false
 abbrev pub is_text : Own → Bool
 is_text (string t) = true
 is_text o = false
-
-false_true : {A : Type 0} → false ≡ true → A
-false_true e = absurd (cc)
 
 -- ---- no known method
 
@@ -58,9 +56,6 @@ key_read h n y o s e =
     let t = recorded h n (Part.expression y) s in
     ap (string_there h.text) (e ∙ t.there) ∙ sym (ap is_text t.owned)
 
-same_expression : {x y : Expression} → Part.expression x ≡ Part.expression y → y ≡ x
-same_expression e = cc
-
 pub not_a_key : {h : Held} {object key : ℕ} {f : Expression} {o : Option Node} → Read h (ComputedMember object key) (Part.expression f) → o ≡ slice_get h.nodes key → string_there h.text o ≡ false
     → FindsMethod h (callee_of f) None
 unfolding callee_of
@@ -70,6 +65,7 @@ not_a_key {h} {object} {key} {f} {o} m e b =
 
 -- ---- a known method
 
+-- The object's number and the piece of text are those of what the callee names.
 pub record Found (h : Held) (f : Expression) (run : Run ℕ) (object : ℕ) : Type 0 where
   pub of : Expression
   pub name : Units
@@ -106,6 +102,7 @@ keyed_found {h} {object} {key} {run} {f} {o} m e b =
       lies_within = (and_parts _ _ (and_parts _ _ k.within).1).0;
     }
 
+-- So its name can be read, and is that of the method.
 pub none_found : {A : Type 0} {h : Held} {f : Expression} {run : Run ℕ} {object : ℕ} → Found h f run object → within h.text run.start run.len ≡ false → A
 none_found f e = absurd (cc (f.lies_within, e))
 

@@ -14,7 +14,7 @@ use Rattle.rules.specs.Taking.{Leading, leading, taken_count, taken_count_with}
 use Rattle.deciding.specs.Standing.{Stands, AllStand, argument_parts}
 use Rattle.deciding.specs.Meant.{Meant}
 use Rattle.deciding.specs.Arguments.{is_spread, is_string, is_taken, stored_at, any_spread, expressions_among, leading_taken}
-use Rattle.deciding.proofs.Records.{Recorded, recorded}
+use Rattle.deciding.proofs.Records.{Recorded, recorded, same_expression}
 
 pub at_record : (test : Node → Bool) (h : Held) (n : ℕ) (p : Part) (r : Recorded h n p) → stored_at test h n ≡ test r.node
 at_record test h n p r = rw r.there refl
@@ -34,10 +34,6 @@ record Counted (r : Node) (x : Expression) : Type 0 where
   no_spread : is_spread r ≡ false
   text : is_string r ≡ is_text x
   taken : is_taken r ≡ taken_in (leading x)
-
--- By the expression that the record means: no other is equal to it.
-same_expression : {x y : Expression} → Part.expression x ≡ Part.expression y → y ≡ x
-same_expression e = cc
 
 counted_of : (r : Node) {x y : Expression} → Part.expression x ≡ Part.expression y → Counted r y → Counted r x
 counted_of r e c = subst (Counted r) (same_expression e) c

@@ -1,9 +1,8 @@
 -- What the rule `method` decides of each known method.
 use Rattle.std.proofs.Common.{◌≡◌, ℕ, zero, suc, ◌+◌, ◌-◌, ◌*◌, ◌<◌, ◌≢◌, Bool, true, false, cond, not, ◌&&◌, nat_le, List, length, Some, None, Option, refl, sym, subst, ap, ◌∙◌, arith}
 use Rattle.std.proofs.lemmas.Bool.Decides.{nat_tests}
-use Rattle.text.specs.Stored.{Stores}
 use Rattle.tree.specs.declared.run.Run.{Run}
-use Rattle.tree.specs.Heap.{Held, entries_at, text_at}
+use Rattle.tree.specs.Heap.{Held, entries_at}
 use Rattle.host.specs.Answers.{Answers}
 use Rattle.meaning.specs.Expression.{Expression, Elements, Arguments, Units}
 use Rattle.meaning.specs.Parts.{Part}
@@ -14,20 +13,18 @@ use Rattle.rules.specs.Interleaves.{argument_count, string_count, expression_cou
 use Rattle.rules.specs.Interleaving.{no_spread, none_left, interleaving, short}
 use Rattle.rules.specs.Taking.{Leading, leading, taken, left, left_with, taken_count, taken_count_with}
 use Rattle.rules.specs.Method.{array_left, array_concat, string_concat}
-use Rattle.deciding.specs.Standing.{Stands, AllStand, argument_parts, element_parts}
-use Rattle.deciding.specs.Plans.{DecisionOf}
+use Rattle.host.proofs.Knowing.{false_true}
+use Rattle.deciding.specs.Standing.{Stands, AllStand, argument_parts, ListsArguments, ListsElements, Spells}
+use Rattle.deciding.specs.Plans.{DecisionOf, NamesMethod}
 use Rattle.deciding.specs.declared.plan.Decision.{Decision}
 use Rattle.deciding.specs.declared.plan.Decision.TheVariants.{Kept, Rewritten}
 use Rattle.deciding.specs.declared.plan.Plan.TheVariants.{Existing, Merged, ConcatLeft, Joined}
 use Rattle.deciding.specs.declared.plan.Calls.TheVariants.{One}
 use Rattle.deciding.specs.Arguments.{expressions_among, leading_taken, any_spread, InterleavesOf}
-use Rattle.deciding.specs.Method.{ListsArguments}
 use Rattle.deciding.proofs.Walks.{none_behind, more_behind}
 use Rattle.deciding.proofs.Counts.{how_many, spread_among, expressions, strings, leading_ones}
 
-false_true : {A : Type 0} → false ≡ true → A
-false_true e = absurd (cc)
-
+-- A decision of no expression, and of one.
 pub kept : (h : Held) {o : Option Expression} → o ≡ None → DecisionOf h o Kept
 kept h {o} e = subst (λ p. DecisionOf h p Kept) (sym e) tt
 
@@ -42,6 +39,7 @@ left_or_taken x Leading.literal xs ys k e = omega (arith, e)
 left_or_taken x (Leading.gives fs) xs ys k e = omega (arith, e)
 left_or_taken x Leading.other xs ys k e = omega arith
 
+-- What is not taken in is left.
 all_or_some : (xs : Arguments) → argument_count (left xs) + taken_count xs ≡ argument_count xs
 unfolding argument_count left taken_count
 all_or_some Arguments.no_arguments = refl
@@ -87,6 +85,7 @@ module _ (h : Held) (a : Answers) (f : Expression) (j : ℕ) (es : Elements) (xs
   all_stand : AllStand h ns (argument_parts xs)
   all_stand = subst (λ ms. AllStand h ms (argument_parts xs)) (sym listed) lists.1
 
+  -- The array itself; or it is kept; or one array, of all arguments; or a call with those that are left.
   pub fold_itself : (object : ℕ) → Stands h object (Part.expression (Expression.array j es)) → length ns ≡ 0 → DecisionOf h (decided a (array_concat (length h.nodes) f j es xs (taken_count xs))) (Rewritten (Existing object))
   fold_itself object o e =
       let none = none_behind h ns xs all_stand (omega arith) in
@@ -95,25 +94,26 @@ module _ (h : Held) (a : Answers) (f : Expression) (j : ℕ) (es : Elements) (xs
   pub fold_none : (count : ℕ) → 0 < length ns → count ≡ leading_taken h ns → count ≡ 0 → DecisionOf h (decided a (array_concat (length h.nodes) f j es xs (taken_count xs))) Kept
   fold_none count e t z = kept h (none_taken a (length h.nodes) j f es xs (taken_count xs) (sym (leading_ones h ns xs all_stand) ∙ sym t ∙ z) (more_behind h ns xs all_stand e))
 
-  pub fold_all : (count : ℕ) (elements : Run ℕ) → AllStand h (entries_at h.entries elements) (element_parts es) → count ≡ leading_taken h ns → count ≢ 0 → count ≡ length ns
+  pub fold_all : (count : ℕ) (elements : Run ℕ) → ListsElements h elements es → count ≡ leading_taken h ns → count ≢ 0 → count ≡ length ns
       → DecisionOf h (decided a (array_concat (length h.nodes) f j es xs (taken_count xs))) (Rewritten (Merged elements arguments))
   fold_all count elements se t z e =
       let k = leading_ones h ns xs all_stand in
       let n = how_many h ns xs all_stand in
       let c = all_or_some xs in
-      becomes h (Rewritten (Merged elements arguments)) (all_taken a (length h.nodes) j f es xs (taken_count xs) (omega (arith, k, t, z)) (none_of_count (left xs) (omega (arith, k, n, c, t, e)))) (es, xs, refl, se, lists.1)
+      becomes h (Rewritten (Merged elements arguments)) (all_taken a (length h.nodes) j f es xs (taken_count xs) (omega (arith, k, t, z)) (none_of_count (left xs) (omega (arith, k, n, c, t, e)))) (es, xs, refl, se, lists)
 
-  pub fold_some : (count callee : ℕ) (elements : Run ℕ) → Stands h callee (Part.expression f) → AllStand h (entries_at h.entries elements) (element_parts es) → count ≡ leading_taken h ns → count ≢ 0 → count ≢ length ns
+  pub fold_some : (count callee : ℕ) (elements : Run ℕ) → NamesMethod h callee f → ListsElements h elements es → count ≡ leading_taken h ns → count ≢ 0 → count ≢ length ns
       → DecisionOf h (decided a (array_concat (length h.nodes) f j es xs (taken_count xs))) (Rewritten (ConcatLeft callee elements arguments count))
   fold_some count callee elements sf se t z e =
       let k = leading_ones h ns xs all_stand in
       let n = how_many h ns xs all_stand in
       let c = all_or_some xs in
       becomes h (Rewritten (ConcatLeft callee elements arguments count)) (some_left a (length h.nodes) j f es xs (left xs) (taken_count xs) (omega (arith, k, t, z)) (more_of_count (left xs) (omega (arith, k, n, c, t, e))) refl)
-      (f, es, xs, refl, t ∙ k, sf, se, lists.1)
+      (f, es, xs, refl, t ∙ k, sf, se, lists)
 
 -- ---- of a string
 
+-- As the code counts, and as the rules do.
 is_short : (xs : Arguments) (n e : ℕ) → n ≡ argument_count xs → e ≡ expression_count xs → nat_le (3 * e) (9 + n + 2 * (n - e)) ≡ short 1 xs
 unfolding short
 is_short xs n e i k =
@@ -142,6 +142,7 @@ module _ (h : Held) (a : Answers) (s : Settings) (u : Units) (xs : Arguments) (a
   stand : AllStand h ns (argument_parts xs)
   stand = subst (λ ms. AllStand h ms (argument_parts xs)) (sym listed) lists.1
 
+  -- It is kept for each test that fails, in the code's order; and else joined.
   pub empty_kept : length ns ≡ 0 → DecisionOf h (decided a (string_concat s (length h.nodes) u xs)) Kept
   empty_kept e =
       let none : nat_le 1 (argument_count xs) ≡ false = ap (λ n. nat_le 1 n) (sym (how_many h ns xs stand) ∙ e) in
@@ -172,7 +173,7 @@ module _ (h : Held) (a : Answers) (s : Settings) (u : Units) (xs : Arguments) (a
   unfolding decided
   apart_kept b e i f = kept h (asked_or_kept _ refl (i xs stand (unspread e) (Deciding.becomes (joined (length h.nodes) u xs)) Deciding.keep ∙ ap (λ c. decided a (cond c (Deciding.becomes (joined (length h.nodes) u xs)) Deciding.keep)) f))
 
-  pub fold_joined : (b : Bool) (e : ℕ) (base : Run ℕ) → s.templates ≡ true → Stores (text_at h.text base) u → 0 < length ns → any_spread h ns ≡ false → e ≡ expressions_among h ns
+  pub fold_joined : (b : Bool) (e : ℕ) (base : Run ℕ) → s.templates ≡ true → Spells h base u → 0 < length ns → any_spread h ns ≡ false → e ≡ expressions_among h ns
       → nat_le (3 * e) (9 + length ns + 2 * (length ns - e)) ≡ true → InterleavesOf a h ns b → b ≡ true → DecisionOf h (decided a (string_concat s (length h.nodes) u xs)) (Rewritten (Joined (One base arguments)))
   unfolding decided
   fold_joined b e base templates text more spread t short_enough i f =
@@ -181,4 +182,4 @@ module _ (h : Held) (a : Answers) (s : Settings) (u : Units) (xs : Arguments) (a
       becomes h (Rewritten (Joined (One base arguments)))
       (string_asked a s (length h.nodes) u xs is_so ∙ i xs stand (unspread spread) (Deciding.becomes (joined (length h.nodes) u xs)) Deciding.keep
       ∙ ap (λ c. decided a (cond c (Deciding.becomes (joined (length h.nodes) u xs)) Deciding.keep)) f)
-      (u, xs, refl, text, lists.1)
+      (u, xs, refl, text, lists)

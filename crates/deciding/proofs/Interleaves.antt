@@ -20,9 +20,11 @@ pub record Gone (a : Answers) (h : Held) (ns : List ℕ) (before followed : Bool
   pub left : (xs zs : Arguments) → AllStand h ns (argument_parts xs) → no_spread xs ≡ true → none_left zs ≡ not followed → (d e : Deciding)
       → decided a (going before (append_arguments xs zs) d e) ≡ decided a (going may (append_arguments (arguments_from k xs) zs) d e)
 
+-- What a host says of a number that stands for a part is its answer of the part.
 pub said : {A : Type 0} {answer : Part → A} {h : Held} {n : ℕ} {s : A} {p : Part} → Says answer h n s → Stands h n p → s ≡ answer p
 said {p = p} s t = s p t.numbered t.denoted
 
+-- Before the first argument.
 pub begun : (a : Answers) (h : Held) (ns : List ℕ) (before followed : Bool) → Gone a h ns before followed 0 before
 unfolding arguments_from
 begun a h ns before followed = record { left = λ xs zs s t z d e. refl }
@@ -95,6 +97,7 @@ module _ (a : Answers) (h : Held) (ns : List ℕ) (before followed : Bool) (k : 
       let w = at_head h ns k xs s t lt in
       g.left xs zs s t z d e ∙ opened true xs zs w d e ∙ quiet_head a w.head (append_arguments w.rest zs) d e true (said said_so w.stands)
 
+  -- An argument with effects, behind one that may coerce an object; one without; one whose type is asked; the last one.
   pub refuse : (may effects : Bool) → may ≡ true → effects ≡ true → Gone a h ns before followed k may → k < length ns → Says a.effects h (get_or ns k 0) effects → GoesOn a h ns before followed None
   refuse may effects m b g lt said_so = loud (subst (Gone a h ns before followed k) m g) lt (subst (Says a.effects h (get_or ns k 0)) b said_so)
 
@@ -137,6 +140,7 @@ module _ (a : Answers) (h : Held) (ns : List ℕ) (before followed : Bool) (k : 
   pub last_step : (may after : Bool) → may ≡ false → after ≡ may → Gone a h ns before followed k may → k < length ns → followed ≡ false → length ns ≤ k + 1 → Gone a h ns before followed (k + 1) after
   last_step may after m i g lt f le = subst (Gone a h ns before followed (k + 1)) (sym (i ∙ m)) (ended (subst (Gone a h ns before followed k) m g) lt f le)
 
+  -- Behind the last argument.
   pub finish : (may : Bool) → Gone a h ns before followed k may → length ns ≤ k → GoesOn a h ns before followed (Some may)
   finish may g le xs zs s t z d e = g.left xs zs s t z d e ∙ ap (λ ys. decided a (going may ys d e)) (ap (λ ys. append_arguments ys zs) (at_end h ns k xs s le) ∙ append_none zs)
 

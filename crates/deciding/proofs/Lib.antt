@@ -10,3 +10,15 @@ pub mod Names
 pub mod Callees
 pub mod Folding
 pub mod Objects
+pub mod Writing
+pub mod ConcatFound
+pub mod ConcatWalk
+pub mod ChainWalks
+pub mod ChainCounts
+pub mod ChainAsked
+pub mod ChainDecided
+pub mod ReadPieces
+pub mod Giving
+pub mod JoinedCalls
+pub mod Spaces
+pub mod PlanNeeds

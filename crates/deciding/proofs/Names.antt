@@ -18,7 +18,7 @@ use Rattle.meaning.specs.Methods.{concat_name, pow_name, of_name, math_name, arr
 use Rattle.deciding.specs.declared.methods.KnownMethod.{KnownMethod}
 use Rattle.deciding.specs.declared.methods.KnownMethod.TheVariants.{Concat, Pow, Of}
 use Rattle.deciding.specs.Method.{known_name, is_name}
-use Rattle.deciding.proofs.Records.{Read}
+use Rattle.deciding.proofs.Records.{same_expression, Read}
 
 -- Texts are the same exactly where their stored forms are.
 pub same_stored : (b c : List ℕ) (u v : Units) → Stores b u → Stores c v → bytes_eq b c ≡ bytes_eq u v
@@ -30,7 +30,7 @@ same_stored b c u v s t =
 
 -- ---- the stored form of each
 
-concat_stored : Stores (codes "concat") (codes "concat")
+pub concat_stored : Stores (codes "concat") (codes "concat")
 unfolding encode
 concat_stored = (search rules, refl)
 
@@ -106,9 +106,6 @@ concat_by_bytes (x ∷ y ∷ z ∷ v ∷ w ∷ a ∷ []) l p q r s t u =
     let same : x ∷ y ∷ z ∷ v ∷ w ∷ a ∷ [] ≡ codes "concat" = cc in
     ap known_name same
 concat_by_bytes (x ∷ y ∷ z ∷ v ∷ w ∷ a ∷ b ∷ bs) l p q r s t u = absurd (omega arith)
-
-same_expression : {x y : Expression} → Part.expression x ≡ Part.expression y → y ≡ x
-same_expression e = cc
 
 -- A name in the stores is this one exactly where its bytes are.
 pub name_told : {h : Held} {run : Run ℕ} {x : Expression} (found : Bor (List ℕ)) (bytes : List ℕ) (k : Units) → Read h (Name run) (Part.expression x) → PieceOf h.text run.start run.len (Some found) → Stores bytes k

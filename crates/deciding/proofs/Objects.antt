@@ -24,15 +24,16 @@ use Rattle.rules.specs.Interleaves.{argument_count}
 use Rattle.rules.specs.Interleaving.{no_spread}
 use Rattle.rules.specs.Taking.{taken_count}
 use Rattle.rules.specs.Method.{Callee, callee_of, array_concat, string_concat, is_number, power, math_pow, array_of, global_method, method_of_object, method_called, method_rule}
-use Rattle.deciding.specs.Standing.{Stands, AllStand, argument_parts}
-use Rattle.deciding.specs.Plans.{DecisionOf}
+use Rattle.deciding.specs.Standing.{Stands, AllStand, argument_parts, ListsArguments}
+use Rattle.deciding.specs.Plans.{DecisionOf, NamesMethod}
 use Rattle.deciding.specs.declared.plan.Decision.{Decision}
 use Rattle.deciding.specs.declared.plan.Decision.TheVariants.{Kept, Rewritten}
 use Rattle.deciding.specs.declared.plan.Plan.TheVariants.{Power, ArrayOf}
 use Rattle.deciding.specs.declared.plan.Exponent.TheVariants.{Number as NumberPlan, Coerced}
 use Rattle.deciding.specs.Arguments.{any_spread}
-use Rattle.deciding.specs.Method.{is_name, is_global_name, known_name, ListsArguments, ConcatsArray, JoinsString, FindsMethod, FindsMethodOf, FoldsOf}
-use Rattle.deciding.proofs.Records.{Read}
+use Rattle.deciding.specs.Method.{is_name, is_global_name, known_name, ConcatsArray, JoinsString, FindsMethod, FindsMethodOf, FoldsOf}
+use Rattle.host.proofs.Knowing.{false_true}
+use Rattle.deciding.proofs.Records.{same_expression, Read}
 use Rattle.deciding.proofs.Walks.{arguments_from, at_head}
 use Rattle.deciding.proofs.Counts.{how_many, spread_among}
 use Rattle.deciding.specs.declared.methods.KnownMethod.{KnownMethod}
@@ -40,12 +41,7 @@ use Rattle.deciding.proofs.Names.{Unknown, unknown, same_known, named, name_of}
 use Rattle.deciding.proofs.Folding.{kept, becomes, and-false}
 use Rattle.deciding.proofs.Interleaves.{said}
 
-false_true : {A : Type 0} → false ≡ true → A
-false_true e = absurd (cc)
-
-same_expression : {x y : Expression} → Part.expression x ≡ Part.expression y → y ≡ x
-same_expression e = cc
-
+-- Tests of a record by what it says besides its children.
 abbrev pub is_base : Own → Bool
 is_base (string t) = true
 is_base array = true
@@ -63,6 +59,7 @@ when_is false d = refl
 module _ (a : Answers) (s : Settings) (next : ℕ) (r : Role) (f : Expression) (xs : Arguments) where
   -- ---- of names
 
+  -- A global object has no other method that is known.
   neither : (j : ℕ) (u k : Units) → same_name k pow_name ≡ false → same_name k of_name ≡ false → decided a (global_method s next j u k xs) ≡ None
   unfolding global_method when decided
   neither j u k e f = rw (e, f, and-false (same_name u math_name), and-false (same_name u array_name)) refl
@@ -141,6 +138,7 @@ module _ (a : Answers) (s : Settings) (next : ℕ) (r : Role) (f : Expression) (
 -- ---- one call of `concat`
 
 module _ (h : Held) (a : Answers) (s : Settings) (r : Role) (f o : Expression) (xs : Arguments) where
+  -- Not by an inner call, and of no other object than an array or a string.
   pub fold_inner : outermost r ≡ false → DecisionOf h (decided a (method_of_object s (length h.nodes) r f xs concat_name o)) Kept
   fold_inner e = kept h (inner_kept a s (length h.nodes) r f xs e o)
 
@@ -148,13 +146,13 @@ module _ (h : Held) (a : Answers) (s : Settings) (r : Role) (f o : Expression) (
   fold_other e = kept h (other_kept a s (length h.nodes) r f xs o e)
 
   pub fold_array : (callee object : ℕ) (elements arguments : Run ℕ) (d : Decision) → outermost r ≡ true → Read h (Array elements) (Part.expression o)
-      → ConcatsArray h callee object elements arguments d → Stands h callee (Part.expression f) → Stands h object (Part.expression o) → ListsArguments h arguments xs
+      → ConcatsArray h callee object elements arguments d → NamesMethod h callee f → Stands h object (Part.expression o) → ListsArguments h arguments xs
       → DecisionOf h (decided a (method_of_object s (length h.nodes) r f xs concat_name o)) d
   fold_array callee object elements arguments d e m concats sf so lists =
       let says = m.says in
       let same : o ≡ Expression.array says.0 says.1 = sym (same_expression says.2) in
       subst (λ q. DecisionOf h q d) (sym (ap (λ p. decided a (method_of_object s (length h.nodes) r f xs concat_name p)) same ∙ ap (decided a) (concat_array a s (length h.nodes) r f xs says.0 says.1 e)))
-      (concats a f says.0 says.1 xs sf (subst (λ p. Stands h object (Part.expression p)) same so) says.3 lists)
+      (concats a f says.0 says.1 xs sf (subst (λ p. Stands h object (Part.expression p)) same so) ((and_parts _ _ m.within).0, says.3) lists)
 
   pub fold_string : (base arguments : Run ℕ) (d : Decision) → outermost r ≡ true → s.templates ≡ true → Read h (String base) (Part.expression o) → JoinsString a h base arguments d → ListsArguments h arguments xs
       → DecisionOf h (decided a (method_of_object s (length h.nodes) r f xs concat_name o)) d
@@ -162,7 +160,7 @@ module _ (h : Held) (a : Answers) (s : Settings) (r : Role) (f o : Expression) (
       let says = m.says in
       let same : o ≡ Expression.string says.0 says.1 = sym (same_expression says.2) in
       subst (λ q. DecisionOf h q d) (sym (ap (λ p. decided a (method_of_object s (length h.nodes) r f xs concat_name p)) same ∙ ap (decided a) (concat_string a s (length h.nodes) r f xs says.0 says.1 e)))
-      (joins s says.1 xs t says.3 lists)
+      (joins s says.1 xs t ((and_parts _ _ (and_parts _ _ m.within).1).0, says.3) lists)
 
   pub fold_unsupported : (base : Run ℕ) → outermost r ≡ true → s.templates ≡ false → Read h (String base) (Part.expression o) → DecisionOf h (decided a (method_of_object s (length h.nodes) r f xs concat_name o)) Kept
   fold_unsupported base e t m =
@@ -267,6 +265,7 @@ module _ (h : Held) (a : Answers) (s : Settings) (r : Role) (f o : Expression) (
   pow_kept : decided a (math_pow s (length h.nodes) o xs) ≡ None → DecisionOf h (decided a (method_of_object s (length h.nodes) r f xs pow_name o)) Kept
   pow_kept e = kept h (ap (decided a) (pow_called a s (length h.nodes) r f xs o) ∙ cond_kept a (is_name math_name o) (math_pow s (length h.nodes) o xs) e)
 
+  -- It is kept for each test that fails, in the code's order.
   pub pow_of_others : (length ns ≢ 2) → DecisionOf h (decided a (method_of_object s (length h.nodes) r f xs pow_name o)) Kept
   pow_of_others e = pow_kept (pow_unless_two a s (length h.nodes) o xs (λ x y i. e (how_many h ns xs stand ∙ ap argument_count i ∙ two_count x y)))
 
@@ -322,7 +321,7 @@ module _ (h : Held) (a : Answers) (s : Settings) (r : Role) (f o : Expression) (
       let both = and_parts (is_name array_name o) (a.global (Part.expression o)) (sym global ∙ e) in
       becomes h (Rewritten (ArrayOf arguments))
       (ap (decided a) (of_called a s (length h.nodes) r f xs o) ∙ ap (λ b. decided a (cond b (array_of (length h.nodes) o xs) Deciding.keep)) both.0 ∙ of_global_one a s (length h.nodes) o both.1 xs)
-      (xs, refl, lists.1)
+      (xs, refl, lists)
 
 -- ---- the rule
 
@@ -340,14 +339,14 @@ unfolding method_called
 called_method s next r f o xs k = refl
 
 -- A method was found: the callee names it.
-record Named (h : Held) (callee : Callee) (name : Bor (List ℕ)) (object : ℕ) : Type 0 where
-  of : Expression
-  units : Units
-  is_it : callee ≡ Callee.method of units
-  spelled : Stores name.now units
-  stands : Stands h object (Part.expression of)
+pub record Named (h : Held) (callee : Callee) (name : Bor (List ℕ)) (object : ℕ) : Type 0 where
+  pub of : Expression
+  pub units : Units
+  pub is_it : callee ≡ Callee.method of units
+  pub spelled : Stores name.now units
+  pub stands : Stands h object (Part.expression of)
 
-named_by : (h : Held) (callee : Callee) (name : Bor (List ℕ)) (object : ℕ) → FindsMethod h callee (Some (name, object)) → Named h callee name object
+pub named_by : (h : Held) (callee : Callee) (name : Bor (List ℕ)) (object : ℕ) → FindsMethod h callee (Some (name, object)) → Named h callee name object
 named_by h (Callee.method o k) name object e = record { of = o; units = k; is_it = refl; spelled = e.0; stands = e.1 }
 named_by h Callee.none name object e = absurd e
 
@@ -384,10 +383,10 @@ module _ (h : Held) (a : Answers) (s : Settings) (r : Role) (x : Expression) whe
 
   pub fold_known : {callee : ℕ} {arguments : Run ℕ} {found : Option (Bor (List ℕ) × ℕ)} (name : Bor (List ℕ)) (object : ℕ) (known : KnownMethod) (d : Decision)
       → Read h (Call callee arguments) (Part.expression x) → FindsMethodOf h callee found → found ≡ Some (name, object) → known_name name.now ≡ Some known
-      → ((f : Expression) → Stands h callee (Part.expression f) → FoldsOf h a s r (name_of known) f object arguments d) → DecisionOf h (decided a (method_rule s (length h.nodes) r x)) d
+      → ((f : Expression) → NamesMethod h callee f → FoldsOf h a s r (name_of known) f object arguments d) → DecisionOf h (decided a (method_rule s (length h.nodes) r x)) d
   fold_known name object known d m finds e u folds =
       let w = named_by h (callee_of m.says.1) name object (subst (FindsMethod h (callee_of m.says.1)) e (finds m.says.1 m.says.4)) in
       let k = named w.units known (sym (same_known name.now w.units w.spelled) ∙ u) in
       let lies_within = (and_parts _ _ m.within).0 in
       subst (λ q. DecisionOf h q d) (sym (by_name m name object w ∙ ap (λ v. decided a (method_of_object s (length h.nodes) r m.says.1 m.says.2 v w.of)) k))
-      (folds m.says.1 m.says.4 w.of m.says.2 w.stands (lies_within, m.says.5))
+      (folds m.says.1 (m.says.4, (w.of, w.units, w.is_it)) w.of m.says.2 w.stands (lies_within, m.says.5))

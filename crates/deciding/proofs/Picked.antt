@@ -75,7 +75,7 @@ record_of h n p s =
 
 -- ---- sorts
 
-any_text : (r : Node) (bytes : List ℕ) → sort_of (own bytes r) ≡ sort_of_node r
+pub any_text : (r : Node) (bytes : List ℕ) → sort_of (own bytes r) ≡ sort_of_node r
 any_text (String t) bytes = refl
 any_text (Number n) bytes = refl
 any_text (Boolean b) bytes = refl

@@ -4,10 +4,15 @@ use Rattle.std.specs.List.{slice_get}
 use Rattle.tree.specs.declared.node.Node.{Node}
 use Rattle.tree.specs.Tree.{Own, Look, Tree, tree, label, labels, own_of, below, Denotes}
 use Rattle.tree.specs.Heap.{Held, look, read, own, children, inside}
+use Rattle.meaning.specs.Expression.{Expression}
 use Rattle.meaning.specs.Parts.{Part, part_tree}
 use Rattle.deciding.specs.Standing.{Stands}
 use Rattle.deciding.specs.Meant.{Meant}
 use Rattle.deciding.proofs.Meaning.{meant}
+
+-- By the expression that a part is, no other is equal to it.
+pub same_expression : {x y : Expression} → Part.expression x ≡ Part.expression y → y ≡ x
+same_expression e = cc
 
 -- It is there, its pieces lie within the stores, and it says what the number stands for.
 pub record Recorded (h : Held) (n : ℕ) (p : Part) : Type 0 where

@@ -4,6 +4,7 @@ use Rattle.tree.specs.Heap.{Held}
 use Rattle.meaning.specs.Expression.{Expression, Arguments}
 use Rattle.meaning.specs.Parts.{Part}
 use Rattle.rules.specs.Interleaving.{no_spread, none_left}
+use Rattle.host.proofs.Knowing.{false_true}
 use Rattle.deciding.specs.Standing.{Stands, AllStand, argument_parts}
 
 -- The arguments from the k-th on.
@@ -22,9 +23,6 @@ pub record AtHead (h : Held) (ns : List ℕ) (k : ℕ) (xs : Arguments) : Type 0
   pub stands : Stands h (get_or ns k 0) (Part.expression head)
   pub is_last : length ns ≤ suc k → rest ≡ Arguments.no_arguments
   pub is_not_last : suc k < length ns → none_left rest ≡ false
-
-false_true : {A : Type 0} → false ≡ true → A
-false_true e = absurd (cc)
 
 pub none_behind : (h : Held) (ns : List ℕ) (xs : Arguments) → AllStand h ns (argument_parts xs) → length ns ≤ 0 → xs ≡ Arguments.no_arguments
 unfolding argument_parts

@@ -5,3 +5,8 @@ pub mod Index
 pub mod Picking
 pub mod Arguments
 pub mod Method
+pub mod ConcatCalls
+pub mod ChainArguments
+pub mod Joining
+pub mod Reached
+pub mod Needs

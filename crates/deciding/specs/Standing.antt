@@ -1,9 +1,11 @@
 -- A part of a payoff stands in the stores.
-use Rattle.std.specs.Prelude.{◌≡◌, ℕ, List, [], ◌∷◌}
+use Rattle.std.specs.Prelude.{◌≡◌, ℕ, true, List, [], ◌∷◌}
+use Rattle.text.specs.Stored.{Stores}
+use Rattle.tree.specs.declared.run.Run.{Run}
 use Rattle.tree.specs.Tree.{label, Denotes}
-use Rattle.tree.specs.Heap.{Held, look}
+use Rattle.tree.specs.Heap.{Held, look, within, entries_at, text_at}
 use Rattle.tree.specs.Lawful.{LawfulTree}
-use Rattle.meaning.specs.Expression.{Elements, Arguments}
+use Rattle.meaning.specs.Expression.{Elements, Arguments, Units}
 use Rattle.meaning.specs.Parts.{Part, part_tree}
 use Rattle.meaning.specs.Payoffs.{Spelled, SpelledQuasi}
 
@@ -39,3 +41,14 @@ unfoldable pub argument_parts : Arguments → List Part
 argument_parts Arguments.no_arguments = []
 argument_parts (Arguments.argument x xs) = Part.expression x ∷ argument_parts xs
 argument_parts (Arguments.spread_argument l x xs) = Part.spread l x ∷ argument_parts xs
+
+-- A list of the stores, which holds all of it, is that of these elements, or of these arguments.
+abbrev pub ListsElements : Held → Run ℕ → Elements → Type 0
+ListsElements h r xs = (within h.entries r.start r.len ≡ true) × AllStand h (entries_at h.entries r) (element_parts xs)
+
+abbrev pub ListsArguments : Held → Run ℕ → Arguments → Type 0
+ListsArguments h r xs = (within h.entries r.start r.len ≡ true) × AllStand h (entries_at h.entries r) (argument_parts xs)
+
+-- A text of the stores, which hold all of it, is stored as these units.
+abbrev pub Spells : Held → Run ℕ → Units → Type 0
+Spells h r u = (within h.text r.start r.len ≡ true) × Stores (text_at h.text r) u

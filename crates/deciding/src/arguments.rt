@@ -90,7 +90,7 @@ pub(crate) fn string_concat_prefers_template(
 
 // Whether a value of the type is no object.
 #[tactic(auto, unfolding(rules::specs::Interleaves::settled))]
-fn is_settled(value_type: ValueType) -> bool
+pub(crate) fn is_settled(value_type: ValueType) -> bool
     ensures { result ≡ settled value_type }
 {
     !matches!(value_type, ValueType::Object | ValueType::Undetermined)

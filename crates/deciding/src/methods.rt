@@ -1,14 +1,12 @@
 // The rule `method`: calls of `concat` on a literal, of `Math.pow` and of `Array.of`.
-ghost use Rattle.std.specs.Prelude.{◌≡◌, length};
+ghost use Rattle.std.specs.Prelude.{◌≡◌, ℕ, length};
 ghost use Rattle.store.specs.Stores.{held_of};
-ghost use Rattle.meaning.specs.Expression.{Expression};
+ghost use Rattle.meaning.specs.Expression.{Expression, Elements};
 ghost use Rattle.meaning.specs.Methods.{concat_name, pow_name, of_name};
-ghost use Rattle.meaning.specs.Parts.{Part};
 ghost use Rattle.rules.specs.Places.{Settings, Role};
 ghost use Rattle.rules.specs.Deciding.{decided};
 ghost use Rattle.rules.specs.Method.{method_rule};
-ghost use Rattle.deciding.specs.Standing.{Stands};
-ghost use Rattle.deciding.specs.Plans.{DecidesOf, role_of, settings_of};
+ghost use Rattle.deciding.specs.Plans.{DecidesOf, NamesMethod, WritesOn, WritesAt, WritesOf, role_of, settings_of};
 ghost use Rattle.deciding.specs.Method.{known_name, FindsMethodOf, FoldsOf, ConcatsArray, JoinsString, Tells, is_name, is_global_name};
 
 use super::arguments::{
@@ -49,10 +47,11 @@ pub fn method<H: Host>(
     support: Support,
     host: &H,
 ) -> Decision
-    ensures { DecidesOf (held_of stores.now) node
+    ensures decides { DecidesOf (held_of stores.now) node
         (λ x. decided (H.answers host.now)
         (method_rule (settings_of support) (length (held_of stores.now).nodes) (role_of place) x))
         result }
+    ensures writes { WritesOf (held_of stores.now) node result }
 {
     let Some(Node::Call { callee, arguments }) = stores.node(node) else {
         return Decision::Kept;
@@ -97,9 +96,10 @@ fn try_fold_concat<H: Host>(
     support: Support,
     host: &H,
 ) -> Decision
-    ensures { (f : Expression) → Stands (held_of stores.now) callee (Part.expression f)
+    ensures folds { (f : Expression) → NamesMethod (held_of stores.now) callee f
         → FoldsOf (held_of stores.now) (H.answers host.now) (settings_of support) (role_of place)
         concat_name f object arguments result }
+    ensures writes { WritesAt (held_of stores.now) object result }
 {
     // Chains are left to the outermost call.
     if place == Place::ConcatObject {
@@ -124,7 +124,8 @@ fn try_fold_array_concat(
     elements: ListRun,
     arguments: ListRun,
 ) -> Decision
-    ensures { ConcatsArray (held_of stores.now) callee object elements arguments result }
+    ensures concats { ConcatsArray (held_of stores.now) callee object elements arguments result }
+    ensures writes { (j : ℕ) (es : Elements) → WritesOn (Expression.array j es) result }
 {
     let Some(entries) = stores.list(arguments) else {
         return Decision::Kept;
@@ -156,7 +157,8 @@ fn try_fold_string_concat<H: Host>(
     arguments: ListRun,
     host: &H,
 ) -> Decision
-    ensures { JoinsString (H.answers host.now) (held_of stores.now) base arguments result }
+    ensures joins { JoinsString (H.answers host.now) (held_of stores.now) base arguments result }
+    ensures writes { (o : Expression) → WritesOn o result }
 {
     let Some(entries) = stores.list(arguments) else {
         return Decision::Kept;
@@ -179,9 +181,10 @@ fn try_fold_pow<H: Host>(
     support: Support,
     host: &H,
 ) -> Decision
-    ensures { (r : Role) (f : Expression)
+    ensures folds { (r : Role) (f : Expression)
         → FoldsOf (held_of stores.now) (H.answers host.now) (settings_of support) r
         pow_name f object arguments result }
+    ensures writes { (o : Expression) → WritesOn o result }
 {
     let Some(arguments) = stores.list(arguments) else {
         return Decision::Kept;
@@ -209,8 +212,9 @@ fn try_fold_array_of<H: Host>(
     arguments: ListRun,
     host: &H,
 ) -> Decision
-    ensures { (s : Settings) (r : Role) (f : Expression)
+    ensures folds { (s : Settings) (r : Role) (f : Expression)
         → FoldsOf (held_of stores.now) (H.answers host.now) s r of_name f object arguments result }
+    ensures writes { WritesAt (held_of stores.now) object result }
 {
     if !validate_global_reference(stores, object, b"Array", host) {
         return Decision::Kept;

@@ -3,7 +3,8 @@ ghost use Rattle.std.specs.Prelude.{length};
 ghost use Rattle.store.specs.Stores.{held_of};
 ghost use Rattle.rules.specs.Deciding.{decided};
 ghost use Rattle.rules.specs.Property.{property_rule};
-ghost use Rattle.deciding.specs.Plans.{DecidesOf, role_of};
+ghost use Rattle.std.specs.Option.{IfSome};
+ghost use Rattle.deciding.specs.Plans.{DecidesOf, WritesNone, WritesOf, role_of};
 ghost use Rattle.deciding.specs.Picking.{ReadAt, UnitAt, ElementAt};
 
 use super::arguments::has_spread;
@@ -17,7 +18,11 @@ use tree::{Node, Sort};
 
 // Decides what `object[key]` becomes. What is taken as a reference is kept, so that `this` is.
 pub fn property<H: Host>(stores: &Stores<'_>, node: u32, place: Place, host: &H) -> Decision
-    ensures { DecidesOf (held_of stores.now) node (λ x. decided (H.answers host.now) (property_rule (length (held_of stores.now).nodes) (role_of place) x)) result }
+    ensures decides { DecidesOf (held_of stores.now) node
+        (λ x. decided (H.answers host.now)
+        (property_rule (length (held_of stores.now).nodes) (role_of place) x))
+        result }
+    ensures writes { WritesOf (held_of stores.now) node result }
 {
     if let Place::Referred = place {
         return Decision::Kept;
@@ -48,7 +53,8 @@ pub fn property<H: Host>(stores: &Stores<'_>, node: u32, place: Place, host: &H)
 
 // What stands at the index of a literal.
 fn try_fold_integer_index_access(stores: &Stores<'_>, object: u32, index: u32) -> Option<Plan>
-    ensures { ReadAt (held_of stores.now) object index result }
+    ensures reads { ReadAt (held_of stores.now) object index result }
+    ensures writes { IfSome result (λ p. WritesNone p) }
 {
     let Some(object) = stores.node(object) else {
         return None;
@@ -72,7 +78,8 @@ fn try_fold_integer_index_access(stores: &Stores<'_>, object: u32, index: u32) -
 
 // The one unit there, or `void 0` past the end.
 fn unit(text: &[u8], index: u32) -> Option<Plan>
-    ensures { UnitAt text.now index result }
+    ensures reads { UnitAt text.now index result }
+    ensures writes { IfSome result (λ p. WritesNone p) }
 {
     match unit_at(text, index as usize) {
         Ok(Some(unit)) => Some(Plan::Unit(unit)),
@@ -83,7 +90,8 @@ fn unit(text: &[u8], index: u32) -> Option<Plan>
 
 // The element there, or `void 0` for a hole, where no spread stands before it.
 fn element(stores: &Stores<'_>, elements: &[u32], index: u32) -> Option<Plan>
-    ensures { ElementAt (held_of stores.now) elements.now index result }
+    ensures reads { ElementAt (held_of stores.now) elements.now index result }
+    ensures writes { IfSome result (λ p. WritesNone p) }
 {
     let Some(&element) = elements.get(index as usize) else {
         return None;
