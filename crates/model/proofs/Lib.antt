@@ -1,0 +1,10 @@
+pub mod Lawful
+pub mod Swapping
+pub mod Making
+pub mod Counting
+pub mod Steady
+pub mod Onward
+pub mod Calls
+pub mod Bounds
+pub mod Without
+pub mod Visiting
