@@ -1,8 +1,8 @@
 // The line protocol for files, and with it the whole protocol.
 //
 //     case HEX NODES,ENTRIES,BYTES TEMPLATES POWER CALL..
-//                           what comes of loading a file into stores of these sizes, and of each call; `tree` is the one
-//                           call there is
+//                           what comes of loading a file into stores of these sizes, and of each call; `tree` is the
+//                           one call there is
 //
 // A case that is not refused is answered `loaded; TREE..; end ROOT 0 NODES ENTRIES BYTES`. Every other line is answered
 // as the protocol for texts has it.

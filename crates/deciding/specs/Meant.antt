@@ -1,5 +1,5 @@
--- What a record says of the part that its number stands for: a case for each kind, by which code that reads a record knows
--- the expression, and what its links and its list stand for.
+-- What a record says of the part that its number stands for: a case for each kind, by which code that reads a record
+-- knows the expression, and what its links and its list stand for.
 use Rattle.std.specs.Prelude.{◌≡◌, ℕ}
 use Rattle.text.specs.Stored.{Stores}
 use Rattle.tree.specs.declared.node.Node.{Node}

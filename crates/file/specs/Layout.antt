@@ -43,8 +43,8 @@ pub record Sized (file : List ℕ) : Type 0 where
   pub text_last : text_offset file ≡ 32 + 20 * node_count file + 4 * entry_count file
   pub whole : length file ≡ 32 + 20 * node_count file + 4 * entry_count file + text_count file
 
--- A file as it is laid out: the root's number, how many nodes there are, the bytes of their records, the entries and the
--- text.
+-- A file as it is laid out: the root's number, how many nodes there are, the bytes of their records, the entries and
+-- the text.
 pub record Layout : Type 0 where
   pub top : ℕ
   pub count : ℕ

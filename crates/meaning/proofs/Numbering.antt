@@ -1,12 +1,12 @@
 -- Runs do not depend on the numbers of nodes.
-use Rattle.std.proofs.Common.{ℕ, zero, suc, List, [], ◌∷◌}
+use Rattle.std.proofs.Common.{ℕ, zero, suc, List, []}
 use Rattle.tree.specs.declared.node.FirstChild.{FirstChild}
-use Rattle.meaning.specs.Expression.{Expression, Elements, Arguments, Pieces, Children, Quasi, Units, cooked_text}
+use Rattle.meaning.specs.Expression.{Expression, Elements, Arguments, Pieces, Children, Quasi, Units}
 use Rattle.meaning.specs.World.{World, ValueIn, Result, Outcome, Next}
 use Rattle.meaning.specs.Acts.{Act, Sight, Then, Mode, Watched, Seen, Steps}
 use Rattle.meaning.specs.Runs.{Reference, mean, elements, arguments, pieces, children, callee, sight_reference}
-use Rattle.meaning.specs.Numbering.{renumbered, renumbered_elements, renumbered_arguments, renumbered_pieces, renumbered_children, renumbered_quasi, NoRunDependsOnNumbers}
-use Rattle.meaning.proofs.Replacing.{Implies, ImpliesSight, then_both, then_first, watched_both, seen_both_ways, steps_all, RefinesReference, callee_refines, sight_refines}
+use Rattle.meaning.specs.Numbering.{renumbered, renumbered_elements, renumbered_arguments, renumbered_pieces, renumbered_children, NoRunDependsOnNumbers}
+use Rattle.meaning.proofs.Replacing.{Implies, ImpliesSight, then_both, watched_both, seen_both_ways, steps_all, RefinesReference, callee_refines, sight_refines}
 
 -- Two acts imply each other, and so do what is put together from them.
 abbrev Same : (S A : Type 0) → Act S A → Act S A → Type 0

@@ -1,15 +1,14 @@
 -- The expression that a lawful tree stores.
-use Rattle.std.proofs.Common.{◌≡◌, ℕ, zero, suc, ◌+◌, ◌≤◌, ◌%◌, ◌==◌, cond, List, true, false, [], length, sym, refl, ap, ◌∙◌, subst, arith}
+use Rattle.std.proofs.Common.{◌≡◌, ℕ, suc, ◌≤◌, ◌%◌, ◌==◌, cond, List, true, false, [], length, sym, refl, ap, ◌∙◌, subst, arith}
 use Rattle.text.specs.Utf16.{Text}
 use Rattle.text.specs.Stored.{stored, Stores}
 use Rattle.text.proofs.Pairing.{stored_once}
-use Rattle.tree.specs.declared.role.Role.{Role}
 use Rattle.tree.specs.declared.role.Role.TheVariants.{Operand, Element, Argument, QuasiPart}
 use Rattle.tree.specs.declared.role.Sort.{Sort}
 use Rattle.tree.specs.declared.role.Sort.TheVariants.{IsExpression, IsHole, IsSpread, IsQuasi}
 use Rattle.tree.specs.declared.node.FirstChild.{FirstChild}
 use Rattle.tree.specs.Tree.{Own, Tree, Trees, tree, none, more, labels, own_of, below}
-use Rattle.tree.specs.Lawful.{LawfulTree, LawfulBelow, Payoff, sort_of, role, admits}
+use Rattle.tree.specs.Lawful.{LawfulTree, LawfulBelow, sort_of, role, admits}
 use Rattle.meaning.specs.Expression.{Expression, Elements, Arguments, Pieces, Children, Quasi}
 use Rattle.meaning.specs.Trees.{tree_of, element_trees, argument_trees, piece_trees, child_trees, quasi_tree}
 use Rattle.meaning.specs.Payoffs.{Spelled, SpelledElements, SpelledArguments, SpelledPieces, SpelledChildren, SpelledQuasi, StoredAs, APayoffIsOneExpression}

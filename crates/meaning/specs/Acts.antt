@@ -37,13 +37,13 @@ pub data Watched (S A : Type 0) (m : Act S A) : Mode → S → Result A → S �
   freely : {s t : S} {r : Result A} → m s r t → Watched S A m Mode.free s r t
   calmly : {s t : S} {r : Result A} → m s r t → Still S A s r t → Watched S A m Mode.calm s r t
 
--- From which state, with which outcome and in which state a child of an opaque expression ends. ECMA-262, "The Completion
--- Record Specification Type".
+-- From which state, with which outcome and in which state a child of an opaque expression ends. ECMA-262, "The
+-- Completion Record Specification Type".
 abbrev pub Sight : Type 0 → Type 0 → Type 1
 Sight S V = S → Outcome V → S → Type 0
 
--- An act as an opaque expression sees it: a throw is an outcome too. ECMA-262, "Completion", which keeps a completion as
--- it is.
+-- An act as an opaque expression sees it: a throw is an outcome too. ECMA-262, "Completion", which keeps a completion
+-- as it is.
 pub data Seen (S A V : Type 0) (m : Act S A) (f : A → Outcome V) : S → Outcome V → S → Type 0 where
   gave : {s t : S} {a : A} {o : Outcome V} → m s (Result.gives a) t → f a ≡ o → Seen S A V m f s o t
   threw : {s t : S} → m s Result.throws t → Seen S A V m f s Outcome.threw t

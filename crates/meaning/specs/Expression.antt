@@ -1,18 +1,18 @@
--- The expressions of payoffs. What may stand where is said by the types: a hole only among an array's elements, a spread
--- there and among arguments, a quasi only in a template. Each node has its number first, by which the stores hold it and a
--- host may know it; no run depends on numbers.
+-- The expressions of payoffs. What may stand where is said by the types: a hole only among an array's elements, a
+-- spread there and among arguments, a quasi only in a template. Each node has its number first, by which the stores
+-- hold it and a host may know it; no run depends on numbers.
 use Rattle.std.specs.Prelude.{ℕ, Bool, List}
 use Rattle.tree.specs.declared.node.UnaryOperator.{UnaryOperator}
 use Rattle.tree.specs.declared.node.BinaryOperator.{BinaryOperator}
 use Rattle.tree.specs.declared.node.FirstChild.{FirstChild}
 
--- A text: a list of 16-bit code units. (That each is below 2 ^ 16 is `Text` of the texts' own definitions; no definition
--- here depends on it.) ECMA-262, "The String Type".
+-- A text: a list of 16-bit code units. (That each is below 2 ^ 16 is `Text` of the texts' own definitions; no
+-- definition here depends on it.) ECMA-262, "The String Type".
 abbrev pub Units : Type 0
 Units = List ℕ
 
--- A quasi, the source text between a template's substitutions: its raw text as it is stored, in UTF-8, and the text that it
--- stands for. ECMA-262, "Template Literal Lexical Components" and "Static Semantics: TV".
+-- A quasi, the source text between a template's substitutions: its raw text as it is stored, in UTF-8, and the text
+-- that it stands for. ECMA-262, "Template Literal Lexical Components" and "Static Semantics: TV".
 pub data Quasi : Type 0 where
   quasi : ℕ → (raw : List ℕ) → (cooked : Units) → Quasi
 

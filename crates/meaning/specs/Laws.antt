@@ -22,13 +22,14 @@ ARunIsDetermined w =
 abbrev pub ACalmRunIsARun : World → Type 0
 ACalmRunIsARun w = (x : Expression) (s : w.State) (v : ValueIn w) → Calm w x s v → Runs w x s (Result.gives v) s
 
--- Where `old` and `new` have the same runs, and what was calm stays calm, so it is with an expression and what it becomes
--- when `new` replaces `old` at one place, however the whole is taken.
+-- Where `old` and `new` have the same runs, and what was calm stays calm, so it is with an expression and what it
+-- becomes when `new` replaces `old` at one place, however the whole is taken.
 abbrev pub AlikeExpressionsReplaceEachOther : World → Type 0
 AlikeExpressionsReplaceEachOther w =
     (old new x y : Expression) (taken : FirstChild) → Keeps w old new → Swap old new taken x y → Keeps w x y
 
--- 0, −0, 1, 3 and 4294967295 are whole numbers from 0; 0.5, −1, the smallest positive number, infinity and NaN are none.
+-- 0, −0, 1, 3 and 4294967295 are whole numbers from 0; 0.5, −1, the smallest positive number, infinity and NaN are
+-- none.
 abbrev pub WholeExamples : Type 0
 WholeExamples =
     (whole (Number.bits 0) ≡ Some 0) × (whole (Number.bits 0x8000000000000000) ≡ Some 0) × (whole one ≡ Some 1)
@@ -50,8 +51,8 @@ minus_three = 0xC008000000000000
 abbrev pub one_bits : ℕ
 one_bits = 0x3FF0000000000000
 
--- A run of each kind of expression in the plain world, a hole, a spread and quasis among them, whose state counts the names
--- that were read.
+-- A run of each kind of expression in the plain world, a hole, a spread and quasis among them, whose state counts the
+-- names that were read.
 pub record EachKindRuns : Type 0 where
   -- "ab"
   pub of_string : Gives (Expression.string 0 (codes "ab")) 0 (text_value plain (codes "ab")) 0
@@ -104,8 +105,8 @@ x_name = Expression.name 0 (codes "x")
 abbrev pub y_name : Expression
 y_name = Expression.name 0 (codes "y")
 
--- Runs in the plain world that show an order: the state that a throw leaves, and the text of an object, tell how many names
--- had been read by then.
+-- Runs in the plain world that show an order: the state that a throw leaves, and the text of an object, tell how many
+-- names had been read by then.
 pub record OrderShows : Type 0 where
   -- `${x}${y}`: the text of x is made before y is read, so the units are 1 and 2
   pub template_makes_text_at_once : Gives

@@ -45,14 +45,14 @@ module _ (w : World) where
   unfoldable pub text_concat_result : (receiver : ValueIn w) → List (ValueIn w) → w.State → Result (ValueIn w)
   text_concat_result v vs s = coercible v >>= λ o. to_text w o s >>= λ u. texts_joined u vs s >>= λ x. Result.gives (text_value w x)
 
-  -- What an object adds, which is its slots where it is spread, and else itself. ECMA-262, "Array.prototype.concat", its
-  -- loop.
+  -- What an object adds, which is its slots where it is spread, and else itself. ECMA-262, "Array.prototype.concat",
+  -- its loop.
   unfoldable pub slots_added : ValueIn w → Option (SlotsIn w) → SlotsIn w
   slots_added v None = Slots.value v Slots.no_slots
   slots_added v (Some xs) = xs
 
-  -- What one value adds: a fresh array is spread, holes included, a primitive value never is, and of an object the world
-  -- says it. ECMA-262, "IsConcatSpreadable" and "Array.prototype.concat".
+  -- What one value adds: a fresh array is spread, holes included, a primitive value never is, and of an object the
+  -- world says it. ECMA-262, "IsConcatSpreadable" and "Array.prototype.concat".
   unfoldable pub spread_slots : ValueIn w → w.State → Result (SlotsIn w)
   spread_slots (Value.primitive p) s = Result.gives (Slots.value (Value.primitive p) Slots.no_slots)
   spread_slots (Value.array xs) s = Result.gives xs

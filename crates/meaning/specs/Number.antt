@@ -28,8 +28,8 @@ exponent_field n = n / 2 ^ 52 % 2 ^ 11
 unfoldable pub fraction_field : ℕ → ℕ
 fraction_field n = n % 2 ^ 52
 
--- (2 ^ 52 + f) * 2 ^ (e - 1075), if that is whole: the value of a positive number with these fields. The field 0 is that
--- of subnormal numbers, which are no whole numbers, and 2047 that of infinity. ECMA-262, "The Number Type".
+-- (2 ^ 52 + f) * 2 ^ (e - 1075), if that is whole: the value of a positive number with these fields. The field 0 is
+-- that of subnormal numbers, which are no whole numbers, and 2047 that of infinity. ECMA-262, "The Number Type".
 unfoldable pub whole_of_fields : (e f : ℕ) → Option ℕ
 whole_of_fields e f =
     cond (e == 0) None
@@ -37,8 +37,8 @@ whole_of_fields e f =
     (cond (nat_le 1075 e) (Some ((2 ^ 52 + f) * 2 ^ (e - 1075)))
     (cond ((2 ^ 52 + f) % 2 ^ (1075 - e) == 0) (Some ((2 ^ 52 + f) / 2 ^ (1075 - e))) None)))
 
--- A number that is whole and at least 0, −0 being 0; none for any other. ECMA-262, "The Number Type" and "Number::toString",
--- by which −0 names the property that 0 names.
+-- A number that is whole and at least 0, −0 being 0; none for any other. ECMA-262, "The Number Type" and
+-- "Number::toString", by which −0 names the property that 0 names.
 unfoldable pub whole : Number → Option ℕ
 whole Number.nan = None
 whole (Number.bits n) =

@@ -1,5 +1,5 @@
--- A world that meets the premises. Nothing stands on it: it shows that the premises do not contradict each other, that every
--- kind of expression has a run, and in which order its parts run.
+-- A world that meets the premises. Nothing stands on it: it shows that the premises do not contradict each other, that
+-- every kind of expression has a run, and in which order its parts run.
 use Rattle.std.specs.Prelude.{ℕ, suc, Bool, true, false, cond, ◌&&◌, List, [], ◌∷◌, Some, None, Option, ◌==◌}
 use Rattle.meaning.specs.Expression.{Units}
 use Rattle.meaning.specs.Number.{Number, whole}
@@ -30,8 +30,8 @@ iterated (Value.primitive p) = Result.throws
 iterated (Value.array xs) = Result.gives (slot_values xs)
 iterated (Value.object o) = Result.throws
 
--- An opaque expression runs its first child, and gives its value, its key if it is a reference, and undefined if it threw.
--- ECMA-262, "The try Statement", which sees a throw too.
+-- An opaque expression runs its first child, and gives its value, its key if it is a reference, and undefined if it
+-- threw. ECMA-262, "The try Statement", which sees a throw too.
 abbrev pub stepped : List (Outcome PlainValue) → ℕ → Next ℕ PlainValue
 stepped [] s = Next.runs 0 s
 stepped (Outcome.gave v ∷ os) s = Next.stops (Ending.ends (Result.gives v) s)
@@ -43,8 +43,8 @@ abbrev pub first_unit : Units → Number
 first_unit [] = Number.nan
 first_unit (u ∷ us) = Number.bits u
 
--- The world, but for its `get` and `apply`. Its state counts the names that were read so far, and the primitive of an array
--- or object is a text of one unit, which is that count: so a run shows when it was made.
+-- The world, but for its `get` and `apply`. Its state counts the names that were read so far, and the primitive of an
+-- array or object is a text of one unit, which is that count: so a run shows when it was made.
 abbrev pub world_with : (PlainValue → PlainValue → ℕ → Ending ℕ PlainValue) → (PlainValue → PlainValue → List PlainValue → ℕ → Ending ℕ PlainValue) → World
 world_with get apply = record {
   State = ℕ;
@@ -71,7 +71,8 @@ world_with get apply = record {
   array_concat = Thing.array_concat;
 }
 
--- The known methods and the reads at an index depend on neither `get` nor `apply`, so that any will do to say what they give.
+-- The known methods and the reads at an index depend on neither `get` nor `apply`, so that any will do to say what they
+-- give.
 abbrev pub methods_world : World
 methods_world = world_with (λ o k s. Ending.never) (λ f o vs s. Ending.never)
 
@@ -106,7 +107,8 @@ key_of (Value.primitive p) = primitive_key p
 key_of (Value.array xs) = Key.other
 key_of (Value.object o) = Key.other
 
--- The properties of a text, a fresh array and an object. ECMA-262, "String Exotic Objects", "Array Exotic Objects", "OrdinaryGet".
+-- The properties of a text, a fresh array and an object. ECMA-262, "String Exotic Objects", "Array Exotic Objects",
+-- "OrdinaryGet".
 abbrev pub text_property : Units → Key → PlainValue
 text_property u (Key.named k) = cond (same_units k concat_name) (Value.object Thing.text_concat) (undefined_value methods_world)
 text_property u (Key.indexed k) = unit_at methods_world u k

@@ -1,6 +1,6 @@
--- What the laws of rewriting will ask of a world: it finds and applies the known methods, and reads texts and fresh arrays
--- at an index, as ECMA-262 says, and that changes no state. (Operators, coercions and the order of all are the run's own
--- definitions.)
+-- What the laws of rewriting will ask of a world: it finds and applies the known methods, and reads texts and fresh
+-- arrays at an index, as ECMA-262 says, and that changes no state. (Operators, coercions and the order of all are the
+-- run's own definitions.)
 use Rattle.std.specs.Prelude.{◌≡◌, ℕ, ◌^◌, ◌<◌, List, [], ◌∷◌, Some}
 use Rattle.meaning.specs.Expression.{Units}
 use Rattle.meaning.specs.Number.{Number, whole}

@@ -19,8 +19,8 @@ pub data Reference (S V : Type 0) : Type 1 where
   plain : Reference S V
   member : Act S (Pair V) → Reference S V
 
--- What an expression means: its run, with its value, and what it refers to. ECMA-262, "Runtime Semantics: Evaluation" and
--- "GetValue".
+-- What an expression means: its run, with its value, and what it refers to. ECMA-262, "Runtime Semantics: Evaluation"
+-- and "GetValue".
 pub record Meaning (S V : Type 0) : Type 1 where
   pub run : Act S V
   pub refers : Reference S V
@@ -57,7 +57,8 @@ module _ (w : World) where
   abbrev pub get_method : Pair (ValueIn w) → Does (Pair (ValueIn w))
   get_method (Pair.pair o k) = then (asks (w.get o k)) (λ f. returns (Pair.pair o f))
 
-  -- The receiver and the function of a callee: undefined is the receiver where it is no member. ECMA-262, "EvaluateCall".
+  -- The receiver and the function of a callee: undefined is the receiver where it is no member. ECMA-262,
+  -- "EvaluateCall".
   abbrev pub callee : Act w.State (ValueIn w) → Reference w.State (ValueIn w) → Does (Pair (ValueIn w))
   callee m Reference.plain = then m (λ f. returns (Pair.pair (undefined_value w) f))
   callee m (Reference.member a) = then a get_method
@@ -74,14 +75,14 @@ module _ (w : World) where
   abbrev pub sight : Act w.State (ValueIn w) → Sight w.State (ValueIn w)
   sight m = Seen w.State (ValueIn w) (ValueIn w) m Outcome.gave
 
-  -- A child that is taken as a reference: a member yields its object and key and is not read, and anything else its value.
-  -- ECMA-262, "The Reference Record Specification Type".
+  -- A child that is taken as a reference: a member yields its object and key and is not read, and anything else its
+  -- value. ECMA-262, "The Reference Record Specification Type".
   abbrev pub sight_reference : Act w.State (ValueIn w) → Reference w.State (ValueIn w) → Sight w.State (ValueIn w)
   sight_reference m Reference.plain = sight m
   sight_reference m (Reference.member a) = Seen w.State (Pair (ValueIn w)) (ValueIn w) a seen_reference
 
-  -- The first child, as the opaque expression takes it. ECMA-262, "The delete Operator" and "Tagged Templates", which take
-  -- a reference.
+  -- The first child, as the opaque expression takes it. ECMA-262, "The delete Operator" and "Tagged Templates", which
+  -- take a reference.
   abbrev pub sight_first : FirstChild → Means → Sight w.State (ValueIn w)
   sight_first FirstChild.Reference m = sight_reference m.run m.refers
   sight_first FirstChild.Value m = sight m.run
@@ -127,14 +128,15 @@ module _ (w : World) where
     arguments c (Arguments.argument x xs) = then (mean c x).run (λ v. then (arguments c xs) (λ vs. returns (v ∷ vs)))
     arguments c (Arguments.spread_argument l x xs) = then (watched c (then (mean c x).run (λ v. asks (w.iterate v)))) (λ us. then (arguments c xs) (λ vs. returns (us ++ vs)))
 
-    -- The text of a template's pieces, behind the text so far: each value is made a text before the next expression runs.
-    -- ECMA-262, "Runtime Semantics: Evaluation" of SubstitutionTemplate and TemplateMiddleList.
+    -- The text of a template's pieces, behind the text so far: each value is made a text before the next expression
+    -- runs. ECMA-262, "Runtime Semantics: Evaluation" of SubstitutionTemplate and TemplateMiddleList.
     pub pieces : Mode → Units → Pieces → Does Units
     pieces c u (Pieces.last q) = returns (u ++ cooked_text q)
     pieces c u (Pieces.piece q x ps) = then (mean c x).run (λ v. then (settles (to_text w v)) (λ t. pieces c ((u ++ cooked_text q) ++ t) ps))
 
-    -- The child of an opaque expression at an index: only the first may be taken as a reference, and past the last there is
-    -- none, so that a world that asks for it has no run. ECMA-262, "Runtime Semantics: Evaluation" of any other expression.
+    -- The child of an opaque expression at an index: only the first may be taken as a reference, and past the last
+    -- there is none, so that a world that asks for it has no run. ECMA-262, "Runtime Semantics: Evaluation" of any
+    -- other expression.
     pub children : Mode → FirstChild → Children → ℕ → Sight w.State (ValueIn w)
     children c f Children.no_children i = λ s o t. ⊥
     children c f (Children.child x xs) zero = sight_first f (mean c x)
@@ -145,7 +147,7 @@ module _ (w : World) where
 abbrev pub Runs : (w : World) → Expression → w.State → Result (ValueIn w) → w.State → Type 0
 Runs w x = (mean w Mode.free x).run
 
--- The run from a state gives a value in that state, and each run inside it ends without a throw in the state that it began
--- in. (No section: a notion of ours.)
+-- The run from a state gives a value in that state, and each run inside it ends without a throw in the state that it
+-- began in. (No section: a notion of ours.)
 abbrev pub Calm : (w : World) → Expression → w.State → ValueIn w → Type 0
 Calm w x s v = (mean w Mode.calm x).run s (Result.gives v) s

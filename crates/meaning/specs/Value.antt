@@ -3,8 +3,8 @@ use Rattle.std.specs.Prelude.{Bool, List, [], ◌∷◌}
 use Rattle.meaning.specs.Expression.{Units}
 use Rattle.meaning.specs.Number.{Number}
 
--- A value that is no object. What BigInts and symbols are is the world's. ECMA-262, "The Undefined Type", "The Null Type",
--- "The Boolean Type", "The Number Type", "The String Type", "The BigInt Type", "The Symbol Type".
+-- A value that is no object. What BigInts and symbols are is the world's. ECMA-262, "The Undefined Type", "The Null
+-- Type", "The Boolean Type", "The Number Type", "The String Type", "The BigInt Type", "The Symbol Type".
 pub data Primitive (Big Symbol : Type 0) : Type 0 where
   undefined null : Primitive Big Symbol
   boolean : Bool → Primitive Big Symbol

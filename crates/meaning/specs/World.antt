@@ -16,21 +16,21 @@ unfoldable pub ◌>>=◌ : {A B : Type 0} → Result A → (A → Result B) → 
 ◌>>=◌ (Result.gives a) k = k a
 ◌>>=◌ Result.throws k = Result.throws
 
--- How a call of the world ends, and in which state; or that it never ends. ECMA-262, "The Completion Record Specification
--- Type".
+-- How a call of the world ends, and in which state; or that it never ends. ECMA-262, "The Completion Record
+-- Specification Type".
 pub data Ending (State A : Type 0) : Type 0 where
   never : Ending State A
   ends : Result A → State → Ending State A
 
--- What an opaque expression has seen of a child: its value, a throw, or, of a member that is taken as a reference, object
--- and key. ECMA-262, "The Completion Record Specification Type" and "The Reference Record Specification Type".
+-- What an opaque expression has seen of a child: its value, a throw, or, of a member that is taken as a reference,
+-- object and key. ECMA-262, "The Completion Record Specification Type" and "The Reference Record Specification Type".
 pub data Outcome (V : Type 0) : Type 0 where
   gave : V → Outcome V
   threw : Outcome V
   refers : (object key : V) → Outcome V
 
--- What an opaque expression does next: it runs a child, by its index from 0 and from a state, or it ends, or never does.
--- ECMA-262, "Runtime Semantics: Evaluation" of any other expression.
+-- What an opaque expression does next: it runs a child, by its index from 0 and from a state, or it ends, or never
+-- does. ECMA-262, "Runtime Semantics: Evaluation" of any other expression.
 pub data Next (State V : Type 0) : Type 0 where
   runs : (child : ℕ) → State → Next State V
   stops : Ending State V → Next State V
@@ -39,9 +39,9 @@ pub data Next (State V : Type 0) : Type 0 where
 pub data Hint : Type 0 where
   for_number for_text : Hint
 
--- A world. State is everything that a run can change. The five functions that come first may change the state, may throw
--- and may never end. `primitive` and `spread_out` may throw, and end, and change no state: the objects that reach a payoff
--- are converted by code that does no more than that. The others are functions of the language.
+-- A world. State is everything that a run can change. The five functions that come first may change the state, may
+-- throw and may never end. `primitive` and `spread_out` may throw, and end, and change no state: the objects that reach
+-- a payoff are converted by code that does no more than that. The others are functions of the language.
 pub record World : Type 1 where
   pub State : Type 0
   pub Object : Type 0
@@ -49,7 +49,8 @@ pub record World : Type 1 where
   pub Symbol : Type 0
   -- the value of a name: ECMA-262, "ResolveBinding" and "GetValue"
   pub read : Units → State → Ending State (Value Object Big Symbol)
-  -- the value of an object's property, by object and key: ECMA-262, "GetValue" of a property reference, with "ToObject", "ToPropertyKey" and [[Get]]
+  -- the value of an object's property, by object and key: ECMA-262, "GetValue" of a property reference, with
+  -- "ToObject", "ToPropertyKey" and [[Get]]
   pub get : (object key : Value Object Big Symbol) → State → Ending State (Value Object Big Symbol)
   -- a function applied to a receiver and arguments: ECMA-262, "EvaluateCall" from IsCallable on, and "Call"
   pub apply : (function receiver : Value Object Big Symbol) → List (Value Object Big Symbol) → State → Ending State (Value Object Big Symbol)
@@ -59,7 +60,8 @@ pub record World : Type 1 where
   pub next : (mark : ℕ) → List (Outcome (Value Object Big Symbol)) → State → Next State (Value Object Big Symbol)
   -- the primitive value of a fresh array or a foreign object: ECMA-262, "ToPrimitive"
   pub primitive : Value Object Big Symbol → Hint → State → Result (Primitive Big Symbol)
-  -- the slots of a foreign object that Array.prototype.concat spreads, or none where it is not spread: ECMA-262, "IsConcatSpreadable"
+  -- the slots of a foreign object that Array.prototype.concat spreads, or none where it is not spread: ECMA-262,
+  -- "IsConcatSpreadable"
   pub spread_out : Object → State → Result (Option (Slots Object Big Symbol))
   -- ECMA-262, "BigInt::exponentiate", "BigInt::subtract" and "BigInt::divide", of which the first and last may throw
   pub big_binary : BinaryOperator → Big → Big → Result Big

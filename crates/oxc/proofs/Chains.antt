@@ -178,15 +178,16 @@ each_alike a (xs ∷ xss) d =
     twice true c o = refl
     twice false c o = refl
 
--- What the rule decides, by what it finds out: that templates are supported, that one is short against one call and against
--- all, that each call interleaves, and that all do.
+-- What the rule decides, by what it finds out: that templates are supported, that one is short against one call and
+-- against all, that each call interleaves, and that all do.
 abbrev found : (t s c each all : Bool) (joined_up one : Option Expression) → Option Expression
 found t s c each all joined_up one = cond (t && s) (cond each joined_up None) (cond all one (cond (t && c) (cond each joined_up None) None))
 
 abbrev rust_found : (t s c each all : Bool) (joined_up one : Expression) → Made
 rust_found t s c each all joined_up one = cond (t && each && cond all s c) (Made.replaced joined_up) (cond all (Made.replaced one) Made.left)
 
--- A template that is short against one call is so against more; and where all arguments together interleave each call does.
+-- A template that is short against one call is so against more; and where all arguments together interleave each call
+-- does.
 found_alike : (t s c each all : Bool) (x y x2 y2 : Expression) → (s ≡ true → c ≡ true) → (all ≡ true → each ≡ true) → SameButNumbers x x2 → SameButNumbers y y2
     → Agree (found t s c each all (Some x) (Some y)) (rust_found t s c each all x2 y2)
 found_alike false s c each true x y x2 y2 h i p q = q

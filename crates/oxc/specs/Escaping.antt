@@ -1,4 +1,5 @@
--- `escape_string_for_template_literal`, step by step. A text is the list of its code points, as `JSStr::chars` gives them.
+-- `escape_string_for_template_literal`, step by step. A text is the list of its code points, as `JSStr::chars` gives
+-- them.
 use Rattle.std.specs.Prelude.{ℕ, ◌-◌, Bool, false, cond, ◌&&◌, ◌||◌, List, [], ◌∷◌, ◌++◌, length, replicate, ◌==◌, nat_le, nat_lt}
 use Rattle.std.specs.Fmt.{digits}
 

@@ -1,5 +1,5 @@
--- What `replace_concat_chain` and `try_fold_concat` share: interleaving, counting and building a template, step by step.
--- New nodes have the number 0.
+-- What `replace_concat_chain` and `try_fold_concat` share: interleaving, counting and building a template, step by
+-- step. New nodes have the number 0.
 use Rattle.std.specs.Prelude.{ℕ, ◌+◌, ◌-◌, ◌*◌, Bool, true, false, cond, ◌&&◌, ◌||◌, List, [], ◌∷◌, ◌++◌, length, codes, nat_le}
 use Rattle.template.specs.Escaped.{raw_of}
 use Rattle.meaning.specs.Expression.{Expression, Arguments, Pieces, Quasi, Units}
@@ -51,7 +51,8 @@ unfoldable pub expression_count : List Part → ℕ
 expression_count [] = 0
 expression_count (p ∷ ps) = not_a_string p + expression_count ps
 
--- `fold_string_concat`: its loop, with `quasis`, `expressions` and `cooked`. `into_expression` is not reached with a spread.
+-- `fold_string_concat`: its loop, with `quasis`, `expressions` and `cooked`. `into_expression` is not reached with a
+-- spread.
 pub record Folded : Type 0 where
   pub quasis : List Units
   pub expressions : List Expression

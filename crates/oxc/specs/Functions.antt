@@ -1,7 +1,7 @@
--- `replace_concat_chain`, `replace_known_global_methods` and `replace_known_property_access`, step by step, on the kinds of
--- expressions that payoffs have, with a host's answers for `may_have_side_effects`, `value_type` and `is_global_reference`,
--- and with what the rules see of the parent. Left out are constant evaluation, `join`, regular expressions, BigInt literals,
--- the constants of Number and `?.`. New nodes have the number 0.
+-- `replace_concat_chain`, `replace_known_global_methods` and `replace_known_property_access`, step by step, on the
+-- kinds of expressions that payoffs have, with a host's answers for `may_have_side_effects`, `value_type` and
+-- `is_global_reference`, and with what the rules see of the parent. Left out are constant evaluation, `join`, regular
+-- expressions, BigInt literals, the constants of Number and `?.`. New nodes have the number 0.
 use Rattle.std.specs.Prelude.{ℕ, zero, suc, Bool, true, false, cond, ◌&&◌, ◌||◌, List, [], ◌∷◌, ◌++◌, length, reverse, Some, None, Option, codes, bytes_eq, nat_le, nat_lt, slice_get}
 use Rattle.text.specs.Utf16.{points}
 use Rattle.tree.specs.declared.node.UnaryOperator.TheVariants.{Plus, Void}
@@ -35,8 +35,8 @@ parent_is_concat r = false
 
 -- ---- replace_concat_chain
 
--- Its loop: it ends with nothing, or with the callee of the innermost call, that callee's object, and the arguments of all
--- calls, the outermost first.
+-- Its loop: it ends with nothing, or with the callee of the innermost call, that callee's object, and the arguments of
+-- all calls, the outermost first.
 pub data Root : Type 0 where
   nothing : Root
   root : (callee object : Expression) → (collected_arguments : List Arguments) → Root
@@ -81,9 +81,9 @@ string_chain s a callee base collected args flattens =
     (Made.replaced (fold_string_concat base args))
     (cond flattens (one_call callee args) Made.left)
 
--- Of an array, the Rust makes one call whatever the arguments are. An argument of a later call that has effects runs, by
--- ECMA-262, after `Array.prototype.concat` has read what an earlier call added, and then before: so there is no answer where
--- such an argument follows one that may be an object and is no array of the source text.
+-- Of an array, the Rust makes one call whatever the arguments are. An argument of a later call that has effects runs,
+-- by ECMA-262, after `Array.prototype.concat` has read what an earlier call added, and then before: so there is no
+-- answer where such an argument follows one that may be an object and is no array of the source text.
 unfoldable pub may_be_read : Answers → Part → Bool
 may_be_read a (Part.expression (Expression.array l xs)) = false
 may_be_read a (Part.expression x) = object_or_undetermined (a.value_type (Part.expression x))

@@ -1,4 +1,5 @@
--- Where the Rust and ECMA-262 part: an argument of a later call changes what `Array.prototype.concat` reads of an earlier one.
+-- Where the Rust and ECMA-262 part: an argument of a later call changes what `Array.prototype.concat` reads of an
+-- earlier one.
 use Rattle.std.specs.Prelude.{◌≡◌, ℕ, true, List, [], ◌∷◌, Some, None, codes}
 use Rattle.meaning.specs.Expression.{Expression, Elements, Arguments}
 use Rattle.meaning.specs.Value.{Value, Slots}
@@ -55,9 +56,9 @@ two_texts a b = Value.array (Slots.value (text_value plain (a ∷ [])) (counted 
 abbrev pub both : Settings
 both = record { templates = true; power = true }
 
--- In a world that meets the premises, two calls read x when one name was read, and y when two were; one call reads both when
--- two were. `replace_concat_chain` makes one call of the two, whatever a host says. The rule keeps them, and so the transcription
--- has no answer.
+-- In a world that meets the premises, two calls read x when one name was read, and y when two were; one call reads both
+-- when two were. `replace_concat_chain` makes one call of the two, whatever a host says. The rule keeps them, and so
+-- the transcription has no answer.
 pub record TheRustPartsFromTheStandard : Type 0 where
   pub premises : Premises counting
   pub two_calls_run : Runs counting two_calls 0 (Result.gives (two_texts 1 2)) 2

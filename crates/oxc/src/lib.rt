@@ -1,5 +1,5 @@
-// The functions of oxc_minifier's replace_known_methods.rs that are ported, transcribed as definitions in specs/; that the
-// port gives what they give is the contract of a law each.
+// The functions of oxc_minifier's replace_known_methods.rs that are ported, transcribed as definitions in specs/; that
+// the port gives what they give is the contract of a law each.
 
 #![tactic(auto)]
 

@@ -43,9 +43,9 @@ unfoldable pub each_interleaving : List Arguments → Deciding → Deciding
 each_interleaving [] d = d
 each_interleaving (xs ∷ xss) d = interleaving xs (each_interleaving xss d) Deciding.keep
 
--- A template where it is short even against one call. Else one call, if all arguments together interleave; and if they do
--- not, a template where it is short against all the calls. oxc_minifier's `replace_concat_chain`, where `call_count` is 1 if
--- all interleave together.
+-- A template where it is short even against one call. Else one call, if all arguments together interleave; and if they
+-- do not, a template where it is short against all the calls. oxc_minifier's `replace_concat_chain`, where `call_count`
+-- is 1 if all interleave together.
 unfoldable pub string_chain : Settings → ℕ → Expression → Units → List Arguments → Deciding
 string_chain s next f u xss =
     when (no_spread (flat xss))

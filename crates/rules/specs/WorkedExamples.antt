@@ -15,8 +15,8 @@ use Rattle.rules.specs.Method.{method_rule}
 use Rattle.rules.specs.Property.{property_rule}
 use Rattle.rules.specs.Building.{void_zero}
 
--- p and q are opaque, with effects and of type Undetermined; n is opaque with the mark 2, without effects and of type Number.
--- Their numbers do not matter.
+-- p and q are opaque, with effects and of type Undetermined; n is opaque with the mark 2, without effects and of type
+-- Number. Their numbers do not matter.
 abbrev pub p : Expression
 p = Expression.opaque 1 Value 0 Children.no_children
 

@@ -19,7 +19,8 @@ RoomSaid room end =
 abbrev pub Asks : List ℕ → Call → List ℕ → ℕ → Type 0
 Asks line call bytes room = (end : List ℕ) × RoomSaid room end × (line ≡ name_of call ++ 0x20 ∷ (hexed bytes ++ end))
 
--- The words name a call and bytes; what is called malformed names no call or no bytes. Nothing is said where memory is short.
+-- The words name a call and bytes; what is called malformed names no call or no bytes. Nothing is said where memory is
+-- short.
 abbrev pub PartsRead : List ℕ → List ℕ → ℕ → Result Request Flaw → Type 0
 PartsRead name word room (Ok r) = (name_of r.call ≡ name) × (hexed (vec_items r.text) ≡ word) × (r.room ≡ room)
 PartsRead name word room (Err Malformed) = (call : Call) (bytes : List ℕ) → Bytes bytes → name_of call ≡ name → hexed bytes ≢ word

@@ -7,7 +7,8 @@ use Rattle.text.specs.Utf16.{leading, trailing, paired}
 use Rattle.text.specs.Points.{Canonical}
 use Rattle.text.specs.Stored.{Lawful}
 
--- Of the code points of two texts, the last leading surrogate and the first trailing one, which are one code point once joined.
+-- Of the code points of two texts, the last leading surrogate and the first trailing one, which are one code point once
+-- joined.
 abbrev pub Meets : List ℕ → List ℕ → Result (Option ℕ) Fault → Type 0
 Meets left right (Ok None) = (cs : List ℕ) × (ds : List ℕ) × Canonical false (cs ++ ds) × (encodes cs ≡ left) × Canonical false ds × (encodes ds ≡ right)
 Meets left right (Ok (Some x)) =

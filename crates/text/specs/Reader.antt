@@ -14,7 +14,8 @@ rest_of s = s.rest.now
 abbrev pub led_of : Characters → Bool
 led_of s = s.led
 
--- The bytes are at their end, or begin with a character that may stand there: no trailing surrogate behind a leading one.
+-- The bytes are at their end, or begin with a character that may stand there: no trailing surrogate behind a leading
+-- one.
 abbrev pub Readable : Bool → List ℕ → Type 0
 Readable led bytes =
     (bytes ≡ []) ⊎ ((c : ℕ) × (rest : List ℕ) × (c ≤ 0x10FFFF) × ((led && trailing c) ≡ false) × (bytes ≡ encode c ++ rest))

@@ -71,8 +71,8 @@ abbrev pub children_of : Option (Own × List ℕ) → List ℕ
 children_of None = []
 children_of (Some r) = r.1
 
--- The number of the tree's topmost node denotes the tree: each of its nodes is stored at its number, with its children's
--- numbers.
+-- The number of the tree's topmost node denotes the tree: each of its nodes is stored at its number, with its
+-- children's numbers.
 abbrev mutual
   pub Denotes : Look → Tree → Type 0
   Denotes h (tree l o ts) = (h l ≡ Some (o, labels ts)) × DenoteAll h ts
