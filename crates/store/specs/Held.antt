@@ -2,6 +2,8 @@
 use Rattle.std.specs.Prelude.{◌≡◌, ℕ, ◌+◌, ◌≤◌, List, [], ◌∷◌, ◌++◌, length, take, drop, Ok, Err, Result}
 use Rattle.base.specs.declared.fault.Fault.{Fault}
 use Rattle.base.specs.Questions.{Refuses}
+use Rattle.text.specs.Stored.{Stores, Lawful}
+use Rattle.template.specs.Escaped.{raw_of}
 use Rattle.tree.specs.Heap.{cut}
 use Rattle.store.specs.declared.store.Store.{Store}
 
@@ -33,3 +35,16 @@ AppendsWithin old start len new (Ok u) =
 AppendsWithin old start len new (Err e) =
     (held new ≡ held old) × (lent new ≡ lent old)
     × Refuses (((13, 0), (start + len ≤ length (held old)) × (length (held old) + len ≤ room old)) ∷ []) e
+
+-- Appending the raw template text of the text from `start` on, behind all that was held; or nothing, where that is not
+-- held or no text, or for want of room. (No origin: a notion of ours.)
+abbrev pub AppendsRaw : (old : Store ℕ) (start : ℕ) (new : Store ℕ) → Result (Unit {0}) Fault → Type 0
+AppendsRaw old start new (Ok u) =
+    (us : List ℕ) × Stores (drop start (held old)) us × Refilled old (held old ++ raw_of us) new × (start ≤ length (held old))
+    × (length (held old) + length (raw_of us) ≤ room old)
+AppendsRaw old start new (Err e) =
+    (held new ≡ held old) × (lent new ≡ lent old)
+    × Refuses (((13, 0), start ≤ length (held old))
+    ∷ ((12, 0), Lawful (drop start (held old)))
+    ∷ ((13, 0), (us : List ℕ) → Stores (drop start (held old)) us → length (held old) + length (raw_of us) ≤ room old)
+    ∷ []) e

@@ -2,6 +2,7 @@
 
 #![tactic(auto)]
 
+mod raw;
 mod store;
 mod stores;
 

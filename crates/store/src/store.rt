@@ -1,6 +1,7 @@
 ghost use Rattle.std.specs.Prelude.{◌≡◌, ◌-◌, ◌≤◌, [], length, take, slice_set};
 ghost use Rattle.std.specs.List.{slice_get};
 
+use super::raw::append_raw;
 use base::{Fault, append};
 
 // A run of items that grows within a slice that the caller lends: the first `len` of them are held. There is no heap.
@@ -93,5 +94,17 @@ impl<'a, T: Copy> Store<'a, T> {
         ensures memory { lent self.new ≡ lent self.old }
     {
         self.len = self.len.saturating_sub(count);
+    }
+}
+
+impl Store<'_, u8> {
+    ghost use Rattle.store.specs.Held.{AppendsRaw};
+
+    // Appends the raw template text of the text from `start` on, which the store holds itself, or refuses it whole.
+    pub fn append_raw(&mut self, start: usize) -> Result<(), Fault>
+        ensures { AppendsRaw self.old start self.new result }
+    {
+        self.len = append_raw(self.items, start, self.len)?;
+        Ok(())
     }
 }
