@@ -36,3 +36,7 @@ pub mod Numbered
 pub mod Payoffs
 pub mod KeptLawful
 pub mod WorkedComputed
+pub mod Parts
+pub mod OldParts
+pub mod AskedParts
+pub mod Standing

@@ -20,3 +20,4 @@ pub mod Space
 pub mod Pairs
 pub mod Examples
 pub mod WorkedExamples
+pub mod OwnParts

@@ -2,6 +2,7 @@
 ghost use Rattle.rules.specs.Laws.{ChainKeepsMeaning, MethodKeepsMeaning, PropertyKeepsMeaning, ChainRewritesExactlyWhen, MethodRewritesExactlyWhen, PropertyRewritesExactlyWhen, ARewriteMakesItSmaller, ASmallerPartMakesTheWholeSmaller};
 ghost use Rattle.rules.specs.Pairs.{InterleavingIsPairwise, ArraysApartIsPairwise};
 ghost use Rattle.rules.specs.Numbering.{NewNodesAreNumberedInTurn};
+ghost use Rattle.rules.specs.OwnParts.{OldPartsStay, OnlyPartsAreAskedOf};
 ghost use Rattle.rules.specs.Lawful.{ALawfulExpressionIsAPayoff, ARewriteKeepsItLawful};
 ghost use Rattle.rules.specs.Examples.{RuleExamples};
 ghost use Rattle.rules.specs.WorkedExamples.{WorkedExamples};
@@ -66,6 +67,16 @@ pub fn a_smaller_part_makes_the_whole_smaller()
 // What an expression becomes has nodes of its own, and new ones, numbered from the first free number on without a gap.
 pub fn new_nodes_are_numbered_in_turn()
     ensures { NewNodesAreNumberedInTurn }
+{}
+
+// What an expression becomes is made of its own parts, each with all that is below it, and of new nodes.
+pub fn old_parts_stay()
+    ensures { OldPartsStay }
+{}
+
+// A rule asks only of parts of its expression.
+pub fn only_parts_are_asked_of()
+    ensures { OnlyPartsAreAskedOf }
 {}
 
 // The tree of a lawful expression is that of a payoff.
