@@ -17,9 +17,13 @@ struct ConcatCall {
 }
 
 // The chain that ends with the call, if there is one.
-pub(crate) fn collect_arguments(stores: &Stores<'_>, node: u32) -> Option<ConcatChain>
+pub fn collect_arguments(stores: &Stores<'_>, node: u32) -> Option<ConcatChain>
     ensures { Collects (held_of stores.now) node result }
 {
+    // Most nodes end no chain, and no table is set out for them.
+    let Some(_) = concat_call(stores, node) else {
+        return None;
+    };
     let mut table = [ListRun::new(0, 0); MAX_CALLS];
     let mut current = node;
     for i in 0..MAX_CALLS {

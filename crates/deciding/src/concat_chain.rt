@@ -9,18 +9,18 @@ use tree::ListRun;
 pub const MAX_NODES: usize = 4_096;
 
 // Each call of a chain has two nodes of its own.
-pub(crate) const MAX_CALLS: usize = MAX_NODES / 2;
+pub const MAX_CALLS: usize = MAX_NODES / 2;
 
 // What the innermost call is a call on.
 #[derive(Clone, Copy)]
-pub(crate) enum Root {
+pub enum Root {
     String,
     Array,
 }
 
 // The calls of a chain. Their arguments stand at the end of a table, since the outermost call is found first.
 #[derive(Drop)]
-pub(crate) struct ConcatChain {
+pub struct ConcatChain {
     pub root: Root,
     // The callee of the innermost call.
     pub new_root_callee: u32,

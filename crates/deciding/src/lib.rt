@@ -16,8 +16,9 @@ mod place;
 mod plan;
 mod property_access;
 
+pub use chain_calls::collect_arguments;
 pub use chain_joining::chain;
-pub use concat_chain::MAX_NODES;
+pub use concat_chain::{ConcatChain, MAX_CALLS, MAX_NODES, Root};
 pub use methods::method;
 pub use place::{Place, Support};
 pub use plan::{Calls, Decision, Exponent, Plan};
