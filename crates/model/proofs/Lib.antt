@@ -8,3 +8,12 @@ pub mod Calls
 pub mod Bounds
 pub mod Without
 pub mod Visiting
+pub mod Still
+pub mod Silencing
+pub mod Allowed
+pub mod Whole
+pub mod Again
+pub mod Placed
+pub mod Kept
+pub mod Lasting
+pub mod Going

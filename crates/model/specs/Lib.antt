@@ -5,3 +5,7 @@ pub mod Moves
 pub mod Sweeps
 pub mod Calls
 pub mod Laws
+pub mod Swept
+pub mod Silence
+pub mod Example
+pub mod Hosts
