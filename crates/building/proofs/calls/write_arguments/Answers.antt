@@ -1,0 +1,24 @@
+use Rattle.std.proofs.Common.{arith}
+use Rattle.building.proofs.OneCalls.{none_gathered, gathers_one, gathers_none, arguments_written}
+use Rattle.building.proofs.calls.write_arguments.Goals as goal
+
+pub loop-arguments-init : goal.loop-arguments-init
+loop-arguments-init c = none_gathered c.args.stores.now c.args.calls.now
+
+pub returns-in_err-append_list : goal.returns-in_err-append_list
+returns-in_err-append_list c =
+    gathers_none c.args.stores.now c.loop-arguments.stores c.append_list.new.stores c.args.calls.now c.loop-arguments.arguments-index _ c.loop-arguments.invariant c.loop-arguments-test.true
+    c.in_err-append_list.field-0.0 c.from_residual.result c.from_residual.ensures.0 c.in_err-append_list.ensures.lists
+
+pub loop-arguments-preserved : goal.loop-arguments-preserved
+loop-arguments-preserved c =
+    gathers_one c.args.stores.now c.loop-arguments.stores c.append_list.new.stores c.args.calls.now c.loop-arguments.arguments-index _ c.loop-arguments.invariant c.loop-arguments-test.true
+    c.append_list.result c.in_ok-append_list.ensures.lists c.append_list.ensures.grows
+
+pub run_between-requires : goal.run_between-requires
+run_between-requires c = let l = c.loop-arguments.invariant.long in omega (arith, l, c.count-start.ensures, c.count.ensures)
+
+pub returns : goal.returns
+returns c =
+    arguments_written c.args.stores.now c.loop-arguments.stores c.args.calls.now c.loop-arguments.arguments-index c.count-start.result c.count.result c.run_between.result c.loop-arguments.invariant
+    c.loop-arguments-test.false c.count-start.ensures c.count.ensures c.run_between.ensures
