@@ -1,0 +1,11 @@
+pub mod Cursor
+pub mod Opening
+pub mod Rewriting
+pub mod Parent
+pub mod Here
+pub mod Decided
+pub mod Tried
+pub mod Sweeping
+pub mod Rounds
+pub mod Shortening
+pub mod Writing

@@ -1,0 +1,6 @@
+pub mod Models
+pub mod Following
+pub mod Trying
+pub mod Sweeping
+pub mod Calling
+pub mod Running
