@@ -17,3 +17,4 @@ pub mod Placed
 pub mod Kept
 pub mod Lasting
 pub mod Going
+pub mod Exampled

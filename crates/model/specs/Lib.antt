@@ -9,3 +9,4 @@ pub mod Swept
 pub mod Silence
 pub mod Example
 pub mod Hosts
+pub mod HostExamples

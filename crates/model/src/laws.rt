@@ -4,6 +4,7 @@ ghost use Rattle.model.specs.Swept.{ASweepLeavesNothing, ASweepSaysWhatItLeft, A
 ghost use Rattle.model.specs.Example.{AWholeSession};
 ghost use Rattle.model.specs.Silence.{ASilentHostNeedsNoWord, NobodyCanTellSilentCalls, WhatHostsAllow};
 ghost use Rattle.model.specs.Hosts.{HostsStayTrue, NobodyCanTellWithTrueHosts};
+ghost use Rattle.model.specs.HostExamples.{TrueHostsCanBeHad};
 
 use meaning::Engine;
 
@@ -72,4 +73,9 @@ pub fn hosts_stay_true<W: Engine>()
 // And so, with such hosts, nobody who runs a payoff can tell the tree that is left from the one that was opened.
 pub fn nobody_can_tell_with_true_hosts<W: Engine>()
     ensures { NobodyCanTellWithTrueHosts W.Engine.world }
+{}
+
+// There is a session with such hosts, and by a table's answers it rewrites what it keeps by the silent host's.
+pub fn true_hosts_can_be_had()
+    ensures { TrueHostsCanBeHad }
 {}
