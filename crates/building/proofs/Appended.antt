@@ -12,7 +12,7 @@ use Rattle.tree.specs.Heap.{within, entries_at}
 use Rattle.tree.proofs.Cuts.{length_cut}
 use Rattle.meaning.specs.Parts.{Part}
 use Rattle.deciding.specs.Standing.{Stands, AllStand}
-use Rattle.building.specs.Growing.{RunsBetween}
+use Rattle.building.specs.Growing.{RunBetween}
 use Rattle.building.specs.Lists.{Lists, NoRoom, AppendsList, Writes}
 use Rattle.building.proofs.Grown.{grows_none, grows_twice, all_stand_then, entries_left}
 use Rattle.building.proofs.Ends.{refused_less, entries_grown}
@@ -71,7 +71,7 @@ no_room_for_more a ps qs none takes =
 
 -- The piece that they are.
 pub listed_at : {a b : Stores} {ps : List Part} (start end : ℕ) (r : Result (Run ℕ) Fault) → Lists a ps b → start ≡ length (held a.entries) → end ≡ length (held b.entries)
-    → RunsBetween start end r → Writes a ps b r
+    → RunBetween start end r → Writes a ps b r
 listed_at {a} {b} {ps} start end (Ok run) f e i g =
     let long = ap length f.grew.entries_grow.0 ∙ length-append (held a.entries) f.numbers in
     record { lists = f; start = g.0 ∙ e; len = omega (arith, g.1, e, i, long) }
@@ -80,4 +80,4 @@ listed_at {a} {b} {ps} start end (Err x) f e i g =
     let long = ap length f.grew.entries_grow.0 ∙ length-append (held a.entries) f.numbers in
     let n = how_many_stand (held_of b) f.numbers ps f.stand in
     let t1 = takes.1 in
-    g (omega (arith, i, long, n, t1))
+    g (omega (arith, e, i, long)) (omega (arith, i, long, n, t1))

@@ -18,7 +18,8 @@ use Rattle.store.specs.declared.store.Store.{Store}
 use Rattle.store.specs.Held.{held, room, Refilled, AppendsRaw}
 use Rattle.building.specs.Growing.{Takes}
 use Rattle.building.specs.Texts.{EndsWithText}
-use Rattle.building.specs.Quasis.{RunBetween, raw_written, IsQuasi}
+use Rattle.building.specs.Growing.{RunBetween}
+use Rattle.building.specs.Quasis.{raw_written, IsQuasi}
 use Rattle.building.proofs.Refilling.{as_it_was}
 
 -- ---- whether the raw text is another

@@ -24,7 +24,8 @@ use Rattle.rules.specs.Building.{new_quasi, pieces_of, quasi_count, template_of}
 use Rattle.building.specs.Growing.{GrowsBy, HasRoom, Pushes, one_node}
 use Rattle.building.specs.Builds.{Built}
 use Rattle.building.specs.Texts.{EndsWithText}
-use Rattle.building.specs.Quasis.{RunBetween, IsQuasi, raw_written}
+use Rattle.building.specs.Growing.{RunBetween}
+use Rattle.building.specs.Quasis.{IsQuasi, raw_written}
 use Rattle.building.specs.Templates.{Ended, continued, entries_of, texts_length, AreQuasis, AllDenoted, Growth, need, QuasiEnded, EndsQuasi}
 use Rattle.building.specs.declared.template_builder.TemplateBuilder.{TemplateBuilder}
 use Rattle.building.proofs.Refilling.{roomy, grows_on}

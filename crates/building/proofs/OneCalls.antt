@@ -25,7 +25,7 @@ use Rattle.tree.specs.Limits.{WithinLimits}
 use Rattle.deciding.specs.ConcatCalls.{CallsStand, calls_of, Rooted, Collects}
 use Rattle.deciding.specs.Standing.{Stands, argument_parts}
 use Rattle.deciding.proofs.ChainWalks.{call_at, behind_it, calls_end, flat_front}
-use Rattle.building.specs.Growing.{HasRoom, Pushes, RunsBetween, Takes}
+use Rattle.building.specs.Growing.{HasRoom, Pushes, RunBetween, Takes}
 use Rattle.building.specs.Builds.{Built, Builds}
 use Rattle.building.specs.Lists.{Lists, NoRoom, AppendsList, ListedAt, Writes, WritesArguments}
 use Rattle.building.proofs.Grown.{grows_twice, nodes_left, denotes_then, lists_arguments_then}
@@ -87,7 +87,7 @@ module _ (a b c : Stores) (calls : List (Run ℕ)) (i : ℕ) (d : Run ℕ) (w : 
       subst (NoRoom a) (sym all) (no_room_for_more a (g.done ++ argument_parts k.arguments) (argument_parts (flat k.rest)) (no_room_behind (argument_parts k.arguments) g.lists (f (argument_parts k.arguments) l.0 l.1)))
 
 pub arguments_written : (a b : Stores) (calls : List (Run ℕ)) (i start end : ℕ) (r : Result (Run ℕ) Fault) → Gathering a calls i b → length calls ≤ i → start ≡ length (held a.entries)
-    → end ≡ length (held b.entries) → RunsBetween start end r → WritesArguments a calls b r
+    → end ≡ length (held b.entries) → RunBetween start end r → WritesArguments a calls b r
 arguments_written a b calls i start end r w le e f g xss s =
     let k = w.so_far xss s in
     let all = k.all ∙ ap (λ z. k.done ++ argument_parts (flat z)) (calls_end (held_of a) calls i xss s le) ∙ ap (λ ps. k.done ++ ps) no_parts ∙ append-nil k.done in

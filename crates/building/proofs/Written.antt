@@ -18,7 +18,7 @@ use Rattle.rules.specs.Taking.{taken}
 use Rattle.rules.specs.Space.{bytes_of, new_nodes, new_bytes, new_entries, elements_from, element_count, space}
 use Rattle.deciding.specs.declared.plan.Plan.TheVariants.{Merged}
 use Rattle.deciding.specs.Standing.{AllStand, ListsElements, ListsArguments, element_parts}
-use Rattle.building.specs.Growing.{GrowsBy, HasRoom, Pushes, RunsBetween, Takes, one_node}
+use Rattle.building.specs.Growing.{GrowsBy, HasRoom, Pushes, RunBetween, Takes, one_node}
 use Rattle.building.specs.Builds.{Built, Builds}
 use Rattle.building.specs.Lists.{Lists, NoRoom, ListedAt, Writes, WritesElements}
 use Rattle.building.proofs.Grown.{grows_twice, nodes_left, lists_arguments_then}
@@ -50,7 +50,7 @@ module _ (a : Stores) (elements arguments : Run ℕ) where
         subst (NoRoom a) (both es xs) (no_room_behind (element_parts (taken xs)) l (g xs (lists_arguments_then l.grew arguments xs sx)))
 
     pub elements_written : (c : Stores) (start end : ℕ) (r : Result (Run ℕ) Fault) → ((xs : Arguments) → ListsArguments (held_of b) arguments xs → Lists b (element_parts (taken xs)) c)
-        → start ≡ length (held a.entries) → end ≡ length (held c.entries) → RunsBetween start end r → WritesElements a elements arguments c r
+        → start ≡ length (held a.entries) → end ≡ length (held c.entries) → RunBetween start end r → WritesElements a elements arguments c r
     elements_written c start end r g i j k es xs se sx =
         let l = f (element_parts es) se.0 se.1 in
         subst (λ ps. Writes a ps c r) (both es xs) (listed_at start end r (lists_behind l (g xs (lists_arguments_then l.grew arguments xs sx))) i j k)

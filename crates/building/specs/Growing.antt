@@ -44,7 +44,7 @@ abbrev pub Pushes : (old : Stores) (node : Node) (new : Stores) → Result ℕ F
 Pushes old node new (Ok n) = (n ≡ length (held old.nodes)) × GrowsBy old (one_node node) new
 Pushes old node new (Err e) = Takes (length (held old.nodes)) 1 (room old.nodes) → ⊥
 
--- The piece of a store between two places; or the second is no number of 32 bits.
-abbrev pub RunsBetween : {T : Type 0} → (start end : ℕ) → Result (Run T) Fault → Type 0
-RunsBetween start end (Ok r) = (r.start ≡ start) × (r.len ≡ end - start)
-RunsBetween start end (Err e) = end < 2 ^ 32 → ⊥
+-- A piece of a store, by where it begins and where it ends; or it does not fit a record.
+abbrev pub RunBetween : {X : Type 0} → (start end : ℕ) → Result (Run X) Fault → Type 0
+RunBetween start end (Ok r) = (r.start ≡ start) × (r.len ≡ end - start) × (start ≤ end)
+RunBetween start end (Err e) = start ≤ end → end < 2 ^ 32 → ⊥

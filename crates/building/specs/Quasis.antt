@@ -1,5 +1,5 @@
 -- The texts of a quasi.
-use Rattle.std.specs.Prelude.{◌≡◌, ℕ, ◌-◌, ◌^◌, ◌<◌, ◌≤◌, true, cond, List, [], ◌++◌, length, bytes_eq, Ok, Err, Result}
+use Rattle.std.specs.Prelude.{◌≡◌, ℕ, true, cond, List, [], ◌++◌, length, bytes_eq, Ok, Err, Result}
 use Rattle.base.specs.declared.fault.Fault.{Fault}
 use Rattle.text.specs.Stored.{stored}
 use Rattle.template.specs.Escaped.{raw_of}
@@ -11,11 +11,6 @@ use Rattle.store.specs.declared.store.Store.{Store}
 use Rattle.store.specs.Held.{held, room, Refilled}
 use Rattle.building.specs.Growing.{Takes}
 use Rattle.building.specs.Texts.{EndsWithText}
-
--- A piece of a store, by where it begins and where it ends; or it does not fit a record.
-abbrev pub RunBetween : {X : Type 0} → (start end : ℕ) → Result (Run X) Fault → Type 0
-RunBetween start end (Ok r) = (r.start ≡ start) × (r.len ≡ end - start) × (start ≤ end)
-RunBetween start end (Err e) = start ≤ end → end < 2 ^ 32 → ⊥
 
 -- The raw text of a quasi is written only where it is another than the text.
 abbrev pub raw_written : List ℕ → List ℕ

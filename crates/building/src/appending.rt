@@ -1,7 +1,7 @@
 // Appending a node or a list, and pieces of the stores.
 ghost use Rattle.std.specs.Prelude.{◌≤◌, length};
 ghost use Rattle.store.specs.Held.{held};
-ghost use Rattle.building.specs.Growing.{Pushes, RunsBetween};
+ghost use Rattle.building.specs.Growing.{Pushes, RunBetween};
 ghost use Rattle.building.specs.Lists.{AppendsList, LiesBehind};
 
 use base::Fault;
@@ -29,15 +29,17 @@ pub(crate) fn append_list(stores: &mut Stores<'_>, list: ListRun) -> Result<(), 
         .append_within(list.start as usize, list.len as usize)
 }
 
-// The piece of a store that begins where it ended before, and ends where it ends now.
+// A piece of a store, by where it begins and where it ends.
 pub(crate) fn run_between<T>(start: usize, end: usize) -> Result<Run<T>, Fault>
-    requires { start ≤ end }
-    ensures { RunsBetween start end result }
+    ensures { RunBetween start end result }
 {
-    let (Ok(start), Ok(len)) = (u32::try_from(start), u32::try_from(end - start)) else {
+    if start > end {
         return Err(Fault::Overfull);
-    };
-    Ok(Run::new(start, len))
+    }
+    match (u32::try_from(start), u32::try_from(end - start)) {
+        (Ok(start), Ok(len)) => Ok(Run::new(start, len)),
+        _ => Err(Fault::Overfull),
+    }
 }
 
 // The piece of a list behind its first entries.

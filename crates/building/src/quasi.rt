@@ -1,23 +1,11 @@
 // The texts of a quasi.
-ghost use Rattle.building.specs.Quasis.{RunBetween, WritesQuasi};
+ghost use Rattle.building.specs.Quasis.{WritesQuasi};
 
+use super::appending::run_between;
 use base::Fault;
 use store::Store;
 use template::Extent;
-use tree::{Node, Run};
-
-// A piece of a store, by where it begins and where it ends.
-pub(crate) fn run_between<T>(start: usize, end: usize) -> Result<Run<T>, Fault>
-    ensures { RunBetween start end result }
-{
-    if start > end {
-        return Err(Fault::Overfull);
-    }
-    match (u32::try_from(start), u32::try_from(end - start)) {
-        (Ok(start), Ok(len)) => Ok(Run::new(start, len)),
-        _ => Err(Fault::Overfull),
-    }
-}
+use tree::Node;
 
 // The quasi of the text that is held from `start` on. Its raw text is written behind it where that is another, and else
 // stands where the text itself does.

@@ -1,9 +1,9 @@
 ghost use Rattle.std.specs.Prelude.{◌≡◌};
 ghost use Rattle.building.specs.Templates.{Begins, EndsQuasi, Adds, AddsArguments, Finishes};
 
-use super::appending::push;
+use super::appending::{push, run_between};
 use super::joined_text::join_text;
-use super::quasi::{run_between, write_quasi};
+use super::quasi::write_quasi;
 use base::Fault;
 use store::Stores;
 use tree::{ListRun, Node, TextRun};

@@ -1,4 +1,3 @@
-use Rattle.std.proofs.Common.{arith}
 use Rattle.building.proofs.OneCalls.{none_gathered, gathers_one, gathers_none, arguments_written}
 use Rattle.building.proofs.calls.write_arguments.Goals as goal
 
@@ -14,9 +13,6 @@ pub loop-arguments-preserved : goal.loop-arguments-preserved
 loop-arguments-preserved c =
     gathers_one c.args.stores.now c.loop-arguments.stores c.append_list.new.stores c.args.calls.now c.loop-arguments.arguments-index _ c.loop-arguments.invariant c.loop-arguments-test.true
     c.append_list.result c.in_ok-append_list.ensures.lists c.append_list.ensures.grows
-
-pub run_between-requires : goal.run_between-requires
-run_between-requires c = let l = c.loop-arguments.invariant.long in omega (arith, l, c.count-start.ensures, c.count.ensures)
 
 pub returns : goal.returns
 returns c =
