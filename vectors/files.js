@@ -1,14 +1,15 @@
 // Makes the vectors of files: node vectors/files.js
 //
 // Writes crates/filevectors/stdin, a command on each line, and crates/filevectors/stdout, the answer to each;
-// crates/payoff/data/quote.payoff, and crates/payoff/stdout, what is printed of it; and checks the example of
-// docs/FORMAT.md and what README.md shows of the quote. The answers are those of the checker in format.js. Random trees
-// and damage come from a fixed start, so that every run writes the same files.
+// crates/payoff/data/quote.payoff, and crates/payoff/stdout, what is printed of it and of what a sweep leaves; and checks the
+// example of docs/FORMAT.md and what README.md shows of the quote. The answers are those of the checker in format.js and of
+// session.js. Random trees and damage come from a fixed start, so that every run writes the same files.
 'use strict';
 const fs = require('fs');
 const path = require('path');
 const { stored, hex, chance, times } = require('./shared');
 const { KINDS, LIMITS, make, printed, parts, inOrder, bytesOf, fileOf, judged, treeOf } = require('./format');
+const { Session } = require('./session');
 
 const root = path.join(__dirname, '..');
 const below = chance(20260202);
@@ -529,11 +530,14 @@ for (const tree of DAMAGED) {
 
 // ---- The quote's payoff, and the example of the document ----
 
-// ["PWR ".concat(hub, " ", `Q${quarter} at \$45.10`), Math.max(spot - 45.1, 0) / 1000, ...fees]
+// ["PWR ".concat(hub).concat(" Q1 at $45.10"), Math.pow(spot - 45.1, 2) / [1, 24, 168][1], [0.25, 0.25].concat([0.5], fees),
+//  Array.of(...legs), `${desk} MWh`]
 const QUOTE = array([
-  call(dot(string('PWR '), 'concat'), [name('hub'), string(' '), template([quasi('Q'), name('quarter'), quasi(' at \\$45.10')])]),
-  binary('/', call(dot(name('Math'), 'max'), [binary('-', name('spot'), number(45.1)), number(0)]), number(1000)),
-  spread(name('fees')),
+  call(dot(call(dot(string('PWR '), 'concat'), [name('hub')]), 'concat'), [string(' Q1 at $45.10')]),
+  binary('/', call(dot(name('Math'), 'pow'), [binary('-', name('spot'), number(45.1)), number(2)]), at(array([number(1), number(24), number(168)]), number(1))),
+  call(dot(array([number(0.25), number(0.25)]), 'concat'), [array([number(0.5)]), name('fees')]),
+  call(dot(name('Array'), 'of'), [spread(name('legs'))]),
+  template([quasi(''), name('desk'), quasi(' MWh')]),
 ]);
 treeVector('quote', QUOTE);
 
@@ -566,9 +570,14 @@ const write = (...names) => (content) => {
 write('crates', 'filevectors', 'stdin')(lines.map(([command]) => command + '\n').join(''));
 write('crates', 'filevectors', 'stdout')(lines.map(([, answer]) => answer + '\n').join(''));
 const quote = parts(QUOTE);
-const shown = [`file      quote.payoff, ${bytesOf(quote).length} bytes`,
-  `holds     ${quote.nodes.length} nodes, ${quote.entries.length} list entries, ${quote.text.length} bytes of text`,
-  `tree      ${printed(QUOTE)}`];
+const sizes = [quote.nodes.length, quote.entries.length, quote.text.length];
+const held = (word, [nodes, entries, text]) => `${word.padEnd(9)} ${nodes} nodes, ${entries} list entries, ${text} bytes of text`;
+const session = new Session(treeOf(judged(bytesOf(quote)).sections), sizes, LIMITS, { templates: true, power: true });
+const before = printed(session.root);
+const [, rewrites, rounds] = session.call('sweep:structural', sizes[0]).split(' ');
+const shown = [`file      quote.payoff, ${bytesOf(quote).length} bytes`, held('holds', sizes),
+  `before    ${before}`, `after     ${printed(session.root)}`, `swept     ${rewrites} rewrites in ${rounds} rounds`, held('left', session.held),
+  `packet    ${bytesOf(quote).length} bytes before, ${fileOf(session.root).length} bytes after`];
 write('crates', 'payoff', 'data', 'quote.payoff')(bytesOf(quote));
 write('crates', 'payoff', 'stdout')(shown.map((line) => line + '\n').join(''));
 const readme = path.join(root, 'README.md');

@@ -140,22 +140,24 @@ const fileOf = (tree, options) => bytesOf(parts(tree, options));
 
 // ---- Judging files ----
 
-// Whether the bytes are the stored form of a text: characters as their first bytes announce them are, if writing them
+// The text whose stored form the bytes are, or undefined: characters as their first bytes announce them, if writing them
 // again gives the same bytes.
-function isText(bytes) {
+function textOf(bytes) {
   let text = '';
   for (let i = 0; i < bytes.length;) {
     const first = bytes[i];
     const length = first < 0x80 ? 1 : first < 0xc0 ? 0 : first < 0xe0 ? 2 : first < 0xf0 ? 3 : first < 0xf8 ? 4 : 0;
-    if (length === 0 || i + length > bytes.length) return false;
+    if (length === 0 || i + length > bytes.length) return undefined;
     let c = length === 1 ? first : first & (0x7f >> length);
     for (const byte of bytes.slice(i + 1, i + length)) c = c << 6 | byte & 63;
-    if (c > 0x10ffff) return false;
+    if (c > 0x10ffff) return undefined;
     text += String.fromCodePoint(c);
     i += length;
   }
-  return Buffer.from(stored(text)).equals(bytes);
+  return Buffer.from(stored(text)).equals(Buffer.from(bytes)) ? text : undefined;
 }
+
+const isText = (bytes) => textOf(bytes) !== undefined;
 
 // Whether the first bytes are raw template text that the engine cooks to the text of the second.
 const utf8 = new TextDecoder('utf-8', { fatal: true, ignoreBOM: true });
@@ -268,16 +270,16 @@ function judged(file, rooms = LIMITS) {
   return wrong === undefined ? { sections } : { fault: 5, node: wrong };
 }
 
-// The tree of a lawful file: nodes are read in order, so each after its children.
+// The tree of a lawful file, each node with its number: nodes are read in order, so each after its children.
 function treeOf(sections) {
   const trees = [];
-  for (const record of sections.nodes) {
+  sections.nodes.forEach((record, number) => {
     const children = childrenOf(record, sections).map(([child]) => trees[child]);
     const texts = fieldsOf(record, sections).texts.map((bytes) => [...bytes]);
     const value = record.kind === 2 ? BigInt(record.words[1]) << 32n | BigInt(record.words[0]) : record.kind === 16 ? record.words[2] : 0;
-    trees.push(node(record.kind, children, { flag: record.flag, texts, value }));
-  }
+    trees.push({ ...node(record.kind, children, { flag: record.flag, texts, value }), number });
+  });
   return trees[sections.root];
 }
 
-module.exports = { KINDS, LIMITS, make, printed, parts, inOrder, bytesOf, fileOf, judged, treeOf };
+module.exports = { KINDS, UNARY, LIMITS, make, printed, parts, inOrder, bytesOf, fileOf, judged, textOf, treeOf };

@@ -8,19 +8,10 @@
 'use strict';
 const fs = require('fs');
 const path = require('path');
-const { stored, hex, cooked, chance, times } = require('./shared');
+const { stored, hex, cooked, escaped, chance, times } = require('./shared');
 
 const MALFORMED = 'refused 12 layer 1 node 0';
 const OVERFULL = 'refused 13 layer 1 node 0';
-
-// The raw text of a text, written apart from the program under test. With the flag u a surrogate that is
-// half of a pair does not match.
-function escaped(text) {
-  return text.replace(/[\\`$\r\uD800-\uDFFF]/gu, (c) => {
-    if (c === '\r') return '\\r';
-    return c < '\uD800' ? '\\' + c : '\\u' + c.charCodeAt(0).toString(16);
-  });
-}
 
 // ---- Chance ----
 

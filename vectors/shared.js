@@ -30,6 +30,15 @@ function cooked(raw) {
   return whole ? calls[0][0] : undefined; // undefined also where an escape has no value
 }
 
+// The raw text of a text, written apart from the program under test. With the flag u a surrogate that is
+// half of a pair does not match.
+function escaped(text) {
+  return text.replace(/[\\`$\r\uD800-\uDFFF]/gu, (c) => {
+    if (c === '\r') return '\\r';
+    return c < '\uD800' ? '\\' + c : '\\u' + c.charCodeAt(0).toString(16);
+  });
+}
+
 // Numbers below n by chance, always the same from the same start (mulberry32).
 function chance(start) {
   let state = start;
@@ -43,4 +52,4 @@ function chance(start) {
 
 const times = (n, make) => Array.from({ length: n }, make);
 
-module.exports = { stored, hex, cooked, chance, times };
+module.exports = { stored, hex, cooked, escaped, chance, times };

@@ -1,1 +1,3 @@
+pub mod Answering
 pub mod Asking
+pub mod Making

@@ -1,47 +1,32 @@
-// A case: a file, stores to load it into, and what to do with it.
-ghost use Rattle.std.specs.Prelude.{IfOk, string_bytes};
-ghost use Rattle.cases.specs.Cases.{AsksCase, RoomsSaid, RunOf};
+// A case: a file, stores to load it into, and the calls of a session on it.
+ghost use Rattle.std.specs.Prelude.{◌≡◌, IfOk, string_bytes};
+ghost use Rattle.session.specs.Following.{given_of};
+ghost use Rattle.cases.specs.Cases.{AsksCase, RoomsSaid, RunOf, SwitchSaid};
+ghost use Rattle.cases.specs.Items.{MakesEach};
 
+use super::call::CaseCall;
 use super::memory::Memory;
-use super::printing::Shown;
-use file::{Loaded, load};
+use super::told::End;
+use deciding::Support;
+use file::load;
 use script::{Answer, Flaw, bytes_of, number_of, words_of};
+use session::Session;
 use std::alloc::{AllocError, Global};
-use std::fmt;
-use std::str::FromStr;
 use store::Counts;
 
-// A call on a loaded file, which a word names.
-#[derive(Clone, Copy)]
-enum CaseCall {
-    Tree,
-}
-
-impl FromStr for CaseCall {
-    type Err = Flaw;
-
-    fn from_str(word: &str) -> Result<CaseCall, Flaw> {
-        match word {
-            "tree" => Ok(CaseCall::Tree),
-            _ => Err(Flaw::Malformed),
-        }
-    }
-}
-
-// What a `case` line asks for. No call looks at the two switches yet.
+// What a `case` line asks for.
 #[derive(Drop)]
 pub struct Case {
     file: Vec<u8>,
     rooms: Counts,
-    templates: bool,
-    power: bool,
+    support: Support,
     calls: Vec<CaseCall>,
 }
 
 impl Case {
     // Reads a line, with one space between words.
     pub fn parse(heap: Global, line: &[u8]) -> Result<Case, Flaw>
-        ensures { IfOk result (λ case. AsksCase line.now case.file.items case.rooms) }
+        ensures { IfOk result (λ case. AsksCase line.now case.file.items case.rooms case.support) }
     {
         let words = words_of(heap, line)?;
         let ["case", file, rooms, templates, power, calls @ ..] = words.as_slice() else {
@@ -50,53 +35,44 @@ impl Case {
         Ok(Case {
             file: bytes_of(heap, file.as_bytes())?,
             rooms: rooms_of(heap, rooms)?,
-            templates: switch_of(templates)?,
-            power: switch_of(power)?,
+            support: Support {
+                templates: switch_of(templates)?,
+                power: switch_of(power)?,
+            },
             calls: calls
                 .iter()
-                .map(|word| word.parse())
+                .map(|word| CaseCall::parse(heap, word))
                 .collect::<Result<Vec<CaseCall>, Flaw>>(heap)??,
         })
     }
 
     // Loads the file, makes the calls, and answers what came of each.
     pub fn run(&self, heap: Global) -> Result<String, AllocError>
-        ensures { IfOk result (λ text. RunOf self.now.file.items self.now.rooms (string_bytes text)) }
+        ensures { IfOk result (λ text. RunOf self.now.file.items self.now.rooms self.now.support self.now.calls.items (string_bytes text)) }
     {
         let mut memory = Memory::new(heap, self.rooms)?;
         match load(self.file.as_slice(), memory.stores()) {
             Ok(loaded) => {
-                let calls = self.calls.as_slice();
-                let loaded = &loaded;
-                format!(in heap; "{}", Outcome { calls, loaded })
+                let mut session = Session::open(loaded, self.support);
+                let items = self.make_calls(heap, &mut session)?;
+                format!(in heap; "loaded{items}; {}", End::of(&session.end()))
             }
             Err(refused) => format!(in heap; "{}", Answer::Refused(refused.fault)),
         }
     }
-}
 
-// What the calls make of a loaded file.
-#[derive(Drop)]
-struct Outcome<'c, 's, 'a> {
-    calls: &'c [CaseCall],
-    loaded: &'s Loaded<'a>,
-}
-
-impl fmt::Display for Outcome<'_, '_, '_> {
-    fn fmt<W: fmt::Write>(&self, f: &mut fmt::Formatter<W>) -> fmt::Result {
-        f.write_str("loaded")?;
-        for call in self.calls {
-            match call {
-                CaseCall::Tree => write!(f, "; {}", Shown::new(self.loaded))?,
-            }
+    // Makes the calls in a session that is just open, and says what came of each, behind a semicolon.
+    fn make_calls(&self, heap: Global, session: &mut Session<'_>) -> Result<String, AllocError>
+        ensures made { IfOk result (λ items. MakesEach self.now.calls.items session.old session.new (string_bytes items)) }
+        ensures given { given_of session.new ≡ given_of session.old }
+    {
+        let loaded = session.stores().counts().nodes;
+        let mut items = String::new(heap);
+        for call in &self.calls {
+            items.push_str("; ")?;
+            items.push_str(call.make(heap, session, loaded)?.as_str())?;
         }
-        let root = self.loaded.root();
-        let Counts {
-            nodes,
-            entries,
-            text,
-        } = self.loaded.stores().counts();
-        write!(f, "; end {root} 0 {nodes} {entries} {text}")
+        Ok(items)
     }
 }
 
@@ -116,7 +92,9 @@ fn rooms_of(heap: Global, word: &str) -> Result<Counts, Flaw>
 }
 
 // What is switched off by 0, and on by 1. The library reads a `bool` otherwise.
-fn switch_of(word: &str) -> Result<bool, Flaw> {
+fn switch_of(word: &str) -> Result<bool, Flaw>
+    ensures { IfOk result (λ on. SwitchSaid on word.now) }
+{
     match word {
         "0" => Ok(false),
         "1" => Ok(true),

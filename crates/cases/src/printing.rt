@@ -1,4 +1,4 @@
-// The tree of a loaded file, on one line.
+// The tree of a payoff in stores, on one line.
 ghost use Rattle.std.specs.Prelude.{◌≡◌};
 ghost use Rattle.file.specs.Calls.{loaded_stores, loaded_root};
 
@@ -8,7 +8,7 @@ use std::fmt;
 use store::Stores;
 use tree::{BinaryOperator, Child, FirstChild, Node, TextRun, UnaryOperator};
 
-// A loaded tree that `{}` shows.
+// A tree that `{}` shows.
 #[derive(Drop)]
 pub struct Shown<'s, 'a> {
     stores: &'s Stores<'a>,
@@ -23,10 +23,15 @@ impl<'s, 'a> Shown<'s, 'a> {
         ensures stores { shown_stores result ≡ loaded_stores loaded.now }
         ensures root { shown_root result ≡ loaded_root loaded.now }
     {
-        Shown {
-            stores: loaded.stores(),
-            root: loaded.root(),
-        }
+        Shown::of(loaded.stores(), loaded.root())
+    }
+
+    // The tree of a root in stores.
+    pub fn of(stores: &'s Stores<'a>, root: u32) -> Shown<'s, 'a>
+        ensures stores { shown_stores result ≡ stores.now }
+        ensures root { shown_root result ≡ root }
+    {
+        Shown { stores, root }
     }
 }
 
@@ -39,7 +44,7 @@ impl fmt::Display for Shown<'_, '_> {
     }
 }
 
-// A node of a loaded tree.
+// A node of a tree in stores.
 #[derive(Clone, Copy)]
 struct Place<'s, 'a> {
     stores: &'s Stores<'a>,
@@ -65,7 +70,7 @@ impl<'s, 'a> Place<'s, 'a> {
     }
 
     // Writes the tree of the node: what stands before its children, the children, and what stands behind them. No path
-    // in a loaded tree has more nodes than there are, so that `fuel` lasts. What stands before a child depends on its
+    // in the tree has more nodes than there are, so that `fuel` lasts. What stands before a child depends on its
     // number.
     fn show<W: fmt::Write>(self, f: &mut fmt::Formatter<W>, fuel: usize) -> fmt::Result {
         self.open(f)?;
@@ -132,7 +137,7 @@ impl<'s, 'a> Place<'s, 'a> {
         }
     }
 
-    // The bytes of a text. Each text of a loaded tree lies within the stores.
+    // The bytes of a text. Each text of a payoff's tree lies within the stores.
     fn hex(self, text: TextRun) -> Hex<'s> {
         Hex(self.stores.text(text).unwrap_or_default())
     }

@@ -1,8 +1,13 @@
-// Payoffs in files, and their trees.
-use anyhow::{anyhow, bail};
-use cases::{Memory, Shown};
+// Payoffs in files.
+use super::options::Options;
+use super::packet::packet_len;
+use super::sweeping::sweep;
+use anyhow::{anyhow, bail, ensure};
+use base::Fault;
+use cases::{End, Memory, Shown, Told};
 use file::{Loaded, load};
-use script::Answer;
+use script::Answer as Reply;
+use session::{Answer, Ended};
 use std::rt::Files;
 use std::{fs, io};
 use store::Counts;
@@ -10,19 +15,63 @@ use store::Counts;
 // The payoff of a quote, in the folder that the program is run in.
 const QUOTE: &str = "quote.payoff";
 
-// Loads the quote's payoff, and prints how large its file is, how much that holds, and the tree.
-pub fn show_quote(rt: &(impl Files + Print + AllocGlobal)) -> anyhow::Result<()> {
-    with_loaded(rt, QUOTE, |len, loaded| {
-        let Counts {
-            nodes,
-            entries,
-            text,
-        } = loaded.stores().counts();
-        println!(rt; "file      {QUOTE}, {len} bytes")?;
-        println!(rt; "holds     {nodes} nodes, {entries} list entries, {text} bytes of text")?;
-        println!(rt; "tree      {}", Shown::new(loaded))
-    })
-    .map_err(|error| anyhow!("{QUOTE}: {error}"))
+// Where the answer to one call is written.
+const UNANSWERED: [Answer; 1] = [Answer::Moved(Ok(()))];
+
+// Shortens the quote's payoff, and prints what it was, what is left of it, and how long a packet is with either.
+pub fn treat_quote(rt: &(impl Files + Print + AllocGlobal)) -> anyhow::Result<()> {
+    let heap = rt.alloc();
+    let file = fs::read(rt, QUOTE).map_err(|error| anyhow!("{QUOTE}: {error}"))?;
+    let mut memory = Memory::for_any_file(heap)?;
+    match load(file.as_slice(), memory.stores()) {
+        Ok(loaded) => {
+            print_loaded(rt, file.len(), &loaded)?;
+            let nodes = loaded.stores().counts().nodes;
+            let options = Options::of_quote(heap);
+            let names = options.host.names(heap)?;
+            let host = options.host.host(names.as_slice(), nodes);
+            let mut answers = UNANSWERED;
+            let ended = sweep(loaded, options.support, &host, &mut answers);
+            print_left(rt, &ended, answers[0])?;
+            let len = packet_len(&ended.stores, ended.root);
+            println!(rt; "packet    {} bytes before, {len} bytes after", file.len())?;
+            Ok(())
+        }
+        Err(refused) => Err(refusal(refused.fault)),
+    }
+}
+
+// Prints what was loaded from a file of so many bytes.
+fn print_loaded(rt: &impl Print, len: usize, loaded: &Loaded<'_>) -> anyhow::Result<()> {
+    println!(rt; "file      {QUOTE}, {len} bytes")?;
+    print_counts(rt, "holds", loaded.stores().counts())?;
+    println!(rt; "before    {}", Shown::new(loaded))?;
+    Ok(())
+}
+
+// Prints what is left, and what the sweep answered.
+fn print_left(rt: &impl Print, ended: &Ended<'_>, answer: Answer) -> anyhow::Result<()> {
+    println!(rt; "after     {}", Shown::of(&ended.stores, ended.root))?;
+    match answer {
+        Answer::Swept(Ok(swept)) => {
+            println!(rt;
+                "swept     {} rewrites in {} rounds",
+                swept.rewrites, swept.rounds
+            )?;
+        }
+        other => bail!("{}", Told(other)),
+    }
+    print_counts(rt, "left", ended.counts)
+}
+
+fn print_counts(rt: &impl Print, word: &str, counts: Counts) -> anyhow::Result<()> {
+    let Counts {
+        nodes,
+        entries,
+        text,
+    } = counts;
+    println!(rt; "{word:<9} {nodes} nodes, {entries} list entries, {text} bytes of text")?;
+    Ok(())
 }
 
 // Prints the tree of each file, and says of each other one why it has none.
@@ -30,37 +79,79 @@ pub fn show_all(
     rt: &(impl Files + Print + Eprint + AllocGlobal),
     paths: &[String],
 ) -> anyhow::Result<()> {
+    for_all(rt, paths, |path| show(rt, path))
+}
+
+// Prints what is left of the payoff of each file, and says of each other one why there is none.
+pub fn shorten_all(
+    rt: &(impl Files + Print + Eprint + AllocGlobal),
+    options: &Options,
+) -> anyhow::Result<()> {
+    for_all(
+        rt,
+        options.paths.as_slice(),
+        |path| shorten(rt, options, path),
+    )
+}
+
+// Does with each file what `treat` does, and says of each other one why it cannot.
+fn for_all<F>(rt: &impl Eprint, paths: &[String], treat: F) -> anyhow::Result<()>
+where
+    F: Fn(&str) -> anyhow::Result<()>,
+    requires { F.IsAlwaysCallable treat }
+{
     let mut bad = 0usize;
     for path in paths {
-        if let Err(error) = show(rt, path.as_str()) {
+        if let Err(error) = treat(path.as_str()) {
             eprintln!(rt; "{path}: {error}")?;
             bad = bad.saturating_add(1);
         }
     }
-    if bad > 0 {
-        bail!("no tree for {bad} of {} files", paths.len());
-    }
+    ensure!(bad == 0, "refused {bad} of {} files", paths.len());
     Ok(())
 }
 
 fn show(rt: &(impl Files + Print + AllocGlobal), path: &str) -> anyhow::Result<()> {
-    with_loaded(
-        rt,
-        path,
-        |_len, loaded| println!(rt; "{path}: {}", Shown::new(loaded)),
-    )
-}
-
-// Loads a file, and prints what `print` says of it and of its length.
-fn with_loaded<F>(rt: &(impl Files + AllocGlobal), path: &str, print: F) -> anyhow::Result<()>
-where
-    F: FnOnce(usize, &Loaded<'_>) -> io::Result<()>,
-    requires { F.IsAlwaysCallable print }
-{
     let file = fs::read(rt, path)?;
     let mut memory = Memory::for_any_file(rt.alloc())?;
     match load(file.as_slice(), memory.stores()) {
-        Ok(loaded) => Ok(print(file.len(), &loaded)?),
-        Err(refused) => bail!("{}: {}", Answer::Refused(refused.fault), refused.fault),
+        Ok(loaded) => Ok(print_tree(rt, path, &loaded)?),
+        Err(refused) => Err(refusal(refused.fault)),
     }
+}
+
+fn print_tree(rt: &impl Print, path: &str, loaded: &Loaded<'_>) -> io::Result<()> {
+    println!(rt; "{path}: {}", Shown::new(loaded))
+}
+
+fn shorten(
+    rt: &(impl Files + Print + AllocGlobal),
+    options: &Options,
+    path: &str,
+) -> anyhow::Result<()> {
+    let heap = rt.alloc();
+    let file = fs::read(rt, path)?;
+    let mut memory = Memory::for_any_file(heap)?;
+    match load(file.as_slice(), memory.stores()) {
+        Ok(loaded) => {
+            let names = options.host.names(heap)?;
+            let nodes = loaded.stores().counts().nodes;
+            let host = options.host.host(names.as_slice(), nodes);
+            let mut answers = UNANSWERED;
+            let ended = sweep(loaded, options.support, &host, &mut answers);
+            Ok(print_end(rt, path, &ended, answers[0])?)
+        }
+        Err(refused) => Err(refusal(refused.fault)),
+    }
+}
+
+// Prints what is left, what the sweep answered, and how the session ended.
+fn print_end(rt: &impl Print, path: &str, ended: &Ended<'_>, answer: Answer) -> io::Result<()> {
+    let left = Shown::of(&ended.stores, ended.root);
+    println!(rt; "{path}: {left}; {}; {}", Told(answer), End::of(ended))
+}
+
+// Why a file has no tree.
+fn refusal(fault: Fault) -> anyhow::Error {
+    anyhow!("{}: {fault}", Reply::Refused(fault))
 }

@@ -5,26 +5,39 @@
 
 mod files;
 mod label;
+mod options;
+mod packet;
+mod plain_world;
+mod sweeping;
 
 use anyhow::bail;
-use std::alloc::Global;
+use options::Options;
 use std::env;
 use std::process::ExitCode;
 use std::rt::{Env, Files};
 
 const HELP: &str =
-    "payoff              load the payoff of a quote from the file quote.payoff of this folder, and print its tree
+    "payoff              shorten the payoff of a quote, from the file quote.payoff of this folder, and print it before and after
 payoff label        escape the label of a quote into template text, cook it back, and compare
 payoff show FILE..  print the tree of each file, as PATH: TREE; the status is 1 where a file has none
+payoff shorten [OPTION..] FILE..
+                    shorten the payoff of each file, and print PATH: TREE; swept REWRITES ROUNDS LEFT; end ROOT REWRITES
+                    NODES ENTRIES BYTES; the status is 1 where a file has none
+                        --host HOST          who is asked: silent, structural (unless told otherwise),
+                                             structural=NAME,NAME with bound names, or table=PATH
+                        --no-templates       the engine knows no template literals
+                        --no-power           the engine does not know the operator **
 payoff script       answer the requests on standard input, one to a line:
                         escape HEX [ROOM]    the raw template text of a text
                         cook HEX [ROOM]      the text that raw template text cooks to
                         case HEX NODES,ENTRIES,BYTES TEMPLATES POWER CALL..
-                                             what comes of loading a file, and of each call
+                                             what comes of loading a file, and of each call of a session on it
                     HEX is lower-case hexadecimal, two digits to a byte; ROOM is the size of the output in bytes
-                    NODES,ENTRIES,BYTES are the sizes of the stores; TEMPLATES and POWER are 0 or 1; a CALL is tree
+                    NODES,ENTRIES,BYTES are the sizes of the stores; TEMPLATES and POWER are 0 or 1
+                    a CALL is enter:CHILD, leave, chain:HOST, method:HOST, property:HOST, sweep:HOST, or tree
+                    a HOST is silent, structural, structural=NAME,NAME or table=HEX, one byte for each loaded node
                     the answer is: ok HEX, refused NUMBER layer LAYER node NODE, or malformed
-                    a loaded case is answered: loaded; TREE..; end ROOT 0 NODES ENTRIES BYTES
+                    a loaded case is answered: loaded; ANSWER..; end ROOT REWRITES NODES ENTRIES BYTES
 payoff help         print this";
 
 // What the program is asked to do.
@@ -33,20 +46,25 @@ enum Command {
     Quote,
     Label,
     Show(Vec<String>),
+    Shorten(Options),
     Script,
     Help,
 }
 
 impl Command {
     // Reads the arguments, the program's own name first.
-    fn parse(heap: Global, mut args: env::Args) -> anyhow::Result<Command> {
+    fn parse(rt: &(impl Files + AllocGlobal), mut args: env::Args) -> anyhow::Result<Command> {
         let _name = args.next();
         let Some(word) = args.next() else {
             return Ok(Command::Quote);
         };
-        let rest: Vec<String> = args.collect(heap)?;
+        let rest: Vec<String> = args.collect(rt.alloc())?;
         match (word.as_str(), rest.is_empty()) {
             ("show", false) => Ok(Command::Show(rest)),
+            ("shorten", _) => {
+                let words: Vec<&str> = rest.iter().map(|word| word.as_str()).collect(rt.alloc())?;
+                Ok(Command::Shorten(Options::parse(rt, words.as_slice())?))
+            }
             ("show", true) => bail!("show which files? See payoff help"),
             ("label", true) => Ok(Command::Label),
             ("script", true) => Ok(Command::Script),
@@ -68,10 +86,11 @@ fn main(rt: HostRuntime) -> ExitCode {
 }
 
 fn run(rt: &(impl Env + Files + Input + Print + Eprint + AllocGlobal)) -> anyhow::Result<()> {
-    match Command::parse(rt.alloc(), env::args(rt)?)? {
-        Command::Quote => files::show_quote(rt)?,
+    match Command::parse(rt, env::args(rt)?)? {
+        Command::Quote => files::treat_quote(rt)?,
         Command::Label => label::show(rt)?,
         Command::Show(paths) => files::show_all(rt, paths.as_slice())?,
+        Command::Shorten(options) => files::shorten_all(rt, &options)?,
         Command::Script => cases::serve(rt)?,
         Command::Help => println!(rt; "{HELP}")?,
     }

@@ -1,5 +1,6 @@
 use Rattle.std.proofs.Common.{◌∙◌}
 use Rattle.std.proofs.lemmas.Result.{IfOk-weaker}
+use Rattle.cases.proofs.Answering.{answered_run}
 use Rattle.cases.proofs.Asking.{refused_run}
 use Rattle.cases.proofs.case.Case.run.Goals as goal
 
@@ -7,5 +8,13 @@ pub returns : goal.returns
 returns c =
     let rooms = c.stores.ensures.rooms ∙ c.in_ok-memory.ensures in
     IfOk-weaker c.format-in-Err.result _ _
-    (λ s printed. refused_run c.args.self.now.file.items c.as_slice.result.now _ c.args.self.now.rooms _ c.in-Err.refused.fault c.as_slice.ensures.value rooms c.in-Err.ensures.0 printed)
+    (λ s printed. refused_run c.args.self.now.file.items c.as_slice.result.now _ c.args.self.now.rooms _ c.args.self.now.support c.args.self.now.calls.items c.in-Err.refused.fault c.as_slice.ensures.value rooms c.in-Err.ensures.0 printed)
     c.format-in-Err.ensures.ok
+
+pub returns-in-Ok : goal.returns-in-Ok
+returns-in-Ok c =
+    let rooms = c.stores.ensures.rooms ∙ c.in_ok-memory.ensures in
+    IfOk-weaker c.format.result _ _
+    (λ s printed. answered_run c.args.self.now.file.items c.as_slice.result.now c.args.self.now.rooms c.args.self.now.support c.args.self.now.calls.items c.stores.result c.in-Ok.loaded c.open-session.result c.make_calls.new.session c.end.result c.of.result _ _
+    c.as_slice.ensures.value rooms c.in-Ok.ensures c.open-session.ensures c.in_ok-items-in-Ok.ensures.made c.end.ensures c.of.ensures.root c.of.ensures.rewrites c.of.ensures.counts printed)
+    c.format.ensures.ok
