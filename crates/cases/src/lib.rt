@@ -1,7 +1,7 @@
 // The line protocol for files, and with it the whole protocol.
 //
 //     case HEX NODES,ENTRIES,BYTES TEMPLATES POWER CALL..
-//                           what comes of loading a file into stores of these sizes, and of the calls of a session on it
+//                           what comes of loading a file into stores of these sizes, and of a session's calls on it
 //
 // A case whose file is refused is answered by the refusal, and any other `loaded; ANSWER..; end ROOT REWRITES NODES
 // ENTRIES BYTES`. Every other line is answered as the protocol for texts has it.

@@ -10,8 +10,8 @@ use file::Loaded;
 use host::Host;
 use session::{Answer, Call, Ended, run};
 
-// Opens a session, sweeps once and ends it: what is left. What the sweep answers is written to `answers`, which has room
-// for it.
+// Opens a session, sweeps once and ends it: what is left. What the sweep answers is written to `answers`, which has
+// room for it.
 pub fn sweep<'a, H: Host>(
     loaded: Loaded<'a>,
     support: Support,
