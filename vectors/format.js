@@ -282,4 +282,4 @@ function treeOf(sections) {
   return trees[sections.root];
 }
 
-module.exports = { KINDS, UNARY, LIMITS, make, printed, parts, inOrder, bytesOf, fileOf, judged, textOf, treeOf };
+module.exports = { KINDS, UNARY, BINARY, LIMITS, make, printed, parts, inOrder, bytesOf, fileOf, judged, textOf, treeOf };

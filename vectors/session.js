@@ -1,5 +1,5 @@
-// Sessions, written from docs/RULES.md, docs/MEANING.md ("Hosts") and docs/REFUSALS.md apart from the program under test:
-// hosts, the three rules with the space that each takes, the cursor, and the sweep.
+// Sessions, written from docs/RULES.md, docs/MEANING.md ("Hosts") and docs/REFUSALS.md apart from the program under
+// test: hosts, the three rules with the space that each takes, the cursor, and the sweep.
 'use strict';
 const { stored, hex, escaped } = require('./shared');
 const { KINDS, UNARY, LIMITS, make, textOf } = require('./format');

@@ -1,7 +1,7 @@
 // Makes the vectors of sessions: node vectors/sessions.js
 //
-// Writes crates/sessionvectors/stdin, a case on each line, and crates/sessionvectors/stdout, the answer to each. The answers
-// are those of session.js. Random payoffs come from a fixed start, so that every run writes the same files.
+// Writes crates/sessionvectors/stdin, a case on each line, and crates/sessionvectors/stdout, the answer to each. The
+// answers are those of session.js. Random payoffs come from a fixed start, so that every run writes the same files.
 'use strict';
 const fs = require('fs');
 const path = require('path');
@@ -24,8 +24,8 @@ function vector(kind, command, answer) {
 const ALL = { templates: true, power: true };
 const sizesOf = (file) => [file.nodes.length, file.entries.length, file.text.length];
 
-// Loads the payoff, with `more` room than it needs if that is given, and makes the calls; `table` stands for the host by the
-// rows of the nodes. Answers the items. Those of `want`, written by hand, have to be the last ones before the end.
+// Loads the payoff, with `more` room than it needs if that is given, and makes the calls; `table` stands for the host by
+// the rows of the nodes. Answers the items. Those of `want`, written by hand, have to be the last ones before the end.
 function sessionVector(kind, tree, calls, { more, rooms, settings = ALL, want, change = () => {} } = {}) {
   const file = parts(tree);
   change(file);
