@@ -34,10 +34,10 @@ function count(...words) {
 
 const run = (words, more = {}) => spawnSync(command[0], [...command.slice(1), ...words], { maxBuffer: MOST_OUTPUT, ...more });
 
-// What went wrong: the shortest is printed.
-const wrong = [];
-function fault(shown, expected, found) {
-  wrong.push({ shown, expected, found });
+// What went wrong: of a line, or of what the program did besides.
+const wrong = { lines: [], runs: [] };
+function fault(shown, expected, found, kind = 'runs') {
+  wrong[kind].push({ shown, expected, found });
 }
 
 // ---- Lines ----
@@ -68,14 +68,15 @@ function askLines(lines, whole) {
   const last = answers.pop();
   if (last !== '') fault('the end of the output', 'a line feed', last);
   lines.forEach(({ sort, how, line }, i) => {
+    if (i > answers.length) return; // behind the line at which the program stopped
     const expected = answerOf(line);
     const items = expected.split('; ');
     count('lines', sort, sortOf(items[0]));
     count('how', sort, how);
     items.forEach((item) => count('answers', sortOf(item)));
-    if (answers[i] !== expected) fault(line.toString('latin1'), expected, answers[i]);
+    if (answers[i] !== expected) fault(line.toString('latin1'), expected, i < answers.length ? answers[i] : 'nothing', 'lines');
   });
-  if (answers.length !== lines.length) fault('', `${lines.length} answers`, `${answers.length} answers`);
+  if (answers.length !== lines.length) fault('a batch', `${lines.length} answers`, `${answers.length} answers`);
   if (status !== 0 || signal !== null || error !== undefined || stderr.length > 0) fault('the end of a batch', 'status 0 and no message', `${status} ${signal} ${error} ${stderr.toString('latin1').slice(0, 300)}`);
   return input.length;
 }
@@ -211,9 +212,12 @@ fs.rmSync(folder, { recursive: true, force: true });
 for (const key of Object.keys(counts).sort()) console.log(`${String(counts[key]).padStart(8)} ${key}`);
 console.log(`${asked} lines of ${bytes} bytes, ${options.files} files, seed ${options.seed}`);
 const missed = times(13, (_, i) => i + 1).filter((n) => counts[`answers, refused ${n}`] === undefined);
-if (missed.length > 0 && options.lines > 0) fault('', 'each fault', `none of ${missed.join(', ')}`);
-if (wrong.length > 0) {
-  const [{ shown, expected, found }] = wrong.sort((a, b) => a.shown.length - b.shown.length);
-  console.log(`${wrong.length} wrong. The shortest:\n${JSON.stringify(shown)}\nhas to be answered\n${expected}\nand is answered\n${found}`);
+if (missed.length > 0 && options.lines > 0) fault('all lines', 'each fault', `none of ${missed.join(', ')}`);
+const shortest = wrong.lines.sort((a, b) => a.shown.length - b.shown.length).slice(0, 1);
+for (const { shown, expected, found } of [...wrong.runs.slice(0, 5), ...shortest]) {
+  console.log(`wrong: ${JSON.stringify(shown)}\n  has to give ${expected}\n  and gives   ${found}`);
+}
+if (wrong.lines.length + wrong.runs.length > 0) {
+  console.log(`${wrong.lines.length} lines, of which the last one above is the shortest, and ${wrong.runs.length} runs are wrong`);
   process.exit(1);
 }
