@@ -10,10 +10,12 @@ const path = require('path');
 const { stored, hex, chance, times } = require('./shared');
 const { KINDS, LIMITS, make, printed, parts, inOrder, bytesOf, fileOf, judged, treeOf } = require('./format');
 const { Session } = require('./session');
+const { treesOfAnyKind } = require('./trees');
 
 const root = path.join(__dirname, '..');
 const below = chance(20260202);
 const oneOf = (list) => list[below(list.length)];
+const { anyTree, ordinaryTree, anyOrder, junk } = treesOfAnyKind(below);
 
 // ---- Vectors ----
 
@@ -377,7 +379,6 @@ changed('order', array([name('a'), name('b'), none(), none(), unary('minus', qua
 
 // ---- What nothing asks: unused entries and text, shared texts, numbers in another order ----
 
-const junk = () => [times(below(3), () => oneOf([0, 1, 0xffffffff, 4096])), times(below(3), () => oneOf([0x80, 0xff, 0xed, 0x61]))];
 treeVector('unused parts', EVERY, { spare: junk });
 treeVector('unused parts', none(), { spare: junk });
 changed('unused parts', none(), (file) => { file.entries = [0, 0xffffffff, 7]; file.text = [0xff, 0xed, 0xa0]; }, 'ok');
@@ -394,42 +395,7 @@ changed('unused parts', array([string('é'), string('\u0080')]), (file) => {
 
 // ---- Trees by chance ----
 
-const anyText = () => times(below(5), () => oneOf([...'abc $`\\\r\nQ1é中', '😀', '\ud83d', '\ude00'])).join('');
-const SOUND = ['', 'a', 'Q', ' $', '\\n', '\\\n', '\\u{1F600}', '\\ud83d', '\\`', '😀', '\r\n', 'é'];
-const anyRaw = () => times(below(4), () => oneOf(SOUND)).join('');
-const LEAVES = [() => string(anyText()), () => number((below(20001) - 10000) / oneOf([1, 8, 10, 1000])), () => boolean(below(2) === 1), none, () => name(oneOf(['hub', 'spot', 'strike', 'é', '']))];
-const PARENTS = [
-  (d) => array(times(below(5), () => anyElement(d))),
-  (d) => dot(anyTree(d), oneOf(['concat', 'max', 'length', ''])),
-  (d) => at(anyTree(d), anyTree(d)),
-  (d) => call(anyTree(d), times(below(4), () => anyArgument(d))),
-  (d) => template(times(2 * below(3) + 1, (_, k) => (k % 2 === 0 ? quasi(anyRaw()) : anyTree(d)))),
-  (d) => unary(oneOf(['plus', 'minus', 'void']), anyTree(d)),
-  (d) => binary(oneOf(['**', '-', '/']), anyTree(d), anyTree(d)),
-  (d) => opaque(times(below(4), () => anyTree(d)), oneOf([0, 7, 65536, 0xffffffff]), 0),
-  (d) => opaque(times(1 + below(3), () => anyTree(d)), below(100), 1),
-];
-const anyTree = (depth) => (depth === 0 || below(4) === 0 ? oneOf(LEAVES)() : oneOf(PARENTS)(depth - 1));
-const anyArgument = (depth) => (below(5) === 0 ? spread(anyTree(depth)) : anyTree(depth));
-const anyElement = (depth) => (below(5) === 0 ? hole() : anyArgument(depth));
-
-// The nodes numbered in any order that has each behind its children.
-function anyOrder(tree) {
-  const all = inOrder(tree);
-  const waiting = new Map(all.map((n) => [n, n.children.length]));
-  const parent = new Map(all.flatMap((n) => n.children.map((c) => [c, n])));
-  const ready = all.filter((n) => n.children.length === 0);
-  const order = [];
-  while (ready.length > 0) {
-    const [n] = ready.splice(below(ready.length), 1);
-    order.push(n);
-    const above = parent.get(n);
-    if (above !== undefined && waiting.set(above, waiting.get(above) - 1).get(above) === 0) ready.push(above);
-  }
-  return order;
-}
-const ordinary = (tree) => inOrder(tree).length <= 24;
-const someTrees = (n) => times(n, () => { for (;;) { const tree = anyTree(4); if (ordinary(tree)) return tree; } });
+const someTrees = (n) => times(n, ordinaryTree);
 someTrees(250).forEach((tree) => treeVector('by chance', tree));
 someTrees(250).forEach((tree) => treeVector('by chance, in any order', tree, { order: anyOrder, spare: junk }));
 

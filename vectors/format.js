@@ -159,10 +159,10 @@ function textOf(bytes) {
 
 const isText = (bytes) => textOf(bytes) !== undefined;
 
-// Whether the first bytes are raw template text that the engine cooks to the text of the second.
+// The text that raw template text cooks to, in its stored form in hexadecimal, or undefined where the engine refuses it.
 const utf8 = new TextDecoder('utf-8', { fatal: true, ignoreBOM: true });
 const known = new Map();
-function cooksTo(raw, bytes) {
+function cookedOf(raw) {
   const key = hex(raw);
   if (!known.has(key)) {
     let text;
@@ -173,8 +173,11 @@ function cooksTo(raw, bytes) {
     }
     known.set(key, text === undefined ? undefined : hex(stored(text)));
   }
-  return known.get(key) === hex(bytes);
+  return known.get(key);
 }
+
+// Whether the first bytes are raw template text that the engine cooks to the text of the second.
+const cooksTo = (raw, bytes) => cookedOf(raw) === hex(bytes);
 
 // The sections of a file whose header is in order.
 function cut(file) {
@@ -282,4 +285,4 @@ function treeOf(sections) {
   return trees[sections.root];
 }
 
-module.exports = { KINDS, UNARY, BINARY, LIMITS, make, printed, parts, inOrder, bytesOf, fileOf, judged, textOf, treeOf };
+module.exports = { KINDS, UNARY, BINARY, LIMITS, make, printed, parts, inOrder, bytesOf, fileOf, judged, textOf, cookedOf, treeOf };

@@ -2,13 +2,15 @@
 //
 // Writes crates/vectors/stdin, a command on each line, and crates/vectors/stdout, the answer to each; the same of comparing
 // in crates/comparevectors; and some lines of the line protocol in crates/linevectors. The cases among those are taken
-// from what files.js wrote, which is run first.
+// from what files.js wrote, which is run first; the damaged ones are made by damaged.js.
 // What a raw text cooks to, the units of a text and what two texts join to are what this JavaScript engine
 // makes of them. The random texts come from a fixed start, so that every run writes the same files.
 'use strict';
 const fs = require('fs');
 const path = require('path');
 const { stored, hex, cooked, escaped, chance, times } = require('./shared');
+const { answerOf } = require('./protocol');
+const { startFrom, anyInput } = require('./damaged');
 
 const MALFORMED = 'refused 12 layer 1 node 0';
 const OVERFULL = 'refused 13 layer 1 node 0';
@@ -311,15 +313,43 @@ function caseLines() {
   return Object.values(kinds).flatMap((cases) => cases.filter((_, i) => i % Math.ceil(cases.length / 9) === 0));
 }
 
+// Damaged lines, as bytes: a few of each sort, of each way to damage it, and with each item of an answer. Long ones are
+// left out.
+function damagedLines() {
+  startFrom(20260505);
+  const taken = {};
+  const made = [];
+  for (const { sort, how, line } of times(20000, anyInput)) {
+    for (const one of line.split('\n').filter((part) => part.length < 16000)) {
+      const bytes = Buffer.from(one, 'latin1');
+      const answer = answerOf(bytes);
+      const keys = [`${sort}, ${how}`, ...answer.split('; ').map((item) => (/^(refused \d+|[a-z]+)/.exec(item) || ['a tree'])[0])];
+      if (keys.every((key) => taken[key] >= 14)) continue;
+      for (const key of keys) taken[key] = (taken[key] || 0) + 1;
+      made.push([bytes, answer]);
+    }
+  }
+  const missed = times(13, (_, i) => `refused ${i + 1}`).filter((key) => taken[key] === undefined);
+  if (missed.length > 0) throw new Error(`no damaged line is ${missed.join(' or ')}`);
+  return made;
+}
+
+// The last line of a script, which may lack its line feed.
+const LAST = ['escape 24', 'ok 5c24'];
+
 // ---- The files ----
 
-function write(crate, made) {
+// Each command has a line feed behind it, but for the `last` one.
+function write(crate, made, last) {
   const folder = path.join(crates, crate);
-  fs.writeFileSync(path.join(folder, 'stdin'), made.map(([command]) => command + '\n').join(''));
-  fs.writeFileSync(path.join(folder, 'stdout'), made.map(([, answer]) => answer + '\n').join(''));
+  const commands = made.flatMap(([command]) => [Buffer.from(command), Buffer.from('\n')]);
+  const all = last === undefined ? made : [...made, last];
+  fs.writeFileSync(path.join(folder, 'stdin'), Buffer.concat(last === undefined ? commands : [...commands, Buffer.from(last[0])]));
+  fs.writeFileSync(path.join(folder, 'stdout'), all.map(([, answer]) => answer + '\n').join(''));
 }
 write('vectors', vectors);
 write('comparevectors', comparisons);
-write('linevectors', [...textLines, ...caseLines()]);
+const damaged = damagedLines();
+write('linevectors', [...textLines, ...caseLines(), ...damaged], LAST);
 for (const key of Object.keys(counts).sort()) console.log(`${counts[key]} ${key}`);
-console.log(`${vectors.length} and ${comparisons.length} in all`);
+console.log(`${vectors.length} and ${comparisons.length} in all, ${damaged.length} damaged lines`);

@@ -6,11 +6,13 @@
 const fs = require('fs');
 const path = require('path');
 const { hex, chance, times } = require('./shared');
-const { LIMITS, make, printed, parts, inOrder, bytesOf, judged, treeOf } = require('./format');
-const { Session } = require('./session');
+const { LIMITS, make, printed, parts, inOrder, bytesOf } = require('./format');
+const { itemsOf } = require('./protocol');
+const { TYPE, row, told, concat, treesToShorten } = require('./trees');
 
 const below = chance(20260303);
 const oneOf = (list) => list[below(list.length)];
+const { anyPayoff, anyHost, anyCall } = treesToShorten(below);
 
 // ---- Vectors ----
 
@@ -34,8 +36,7 @@ function sessionVector(kind, tree, calls, { more, rooms, settings = ALL, want, c
   const rows = hex(inOrder(tree).map((n) => (n.row === undefined ? rowOf(n) : n.row)));
   const words = calls.map((call) => call.replace(/\btable$/, `table=${rows}`));
   const bytes = bytesOf(file);
-  const judgement = judged(bytes, room);
-  const items = judgement.fault === undefined ? answered(judgement.sections, sizes, room, settings, words) : [`refused ${judgement.fault} layer 2 node ${judgement.node}`];
+  const items = itemsOf(bytes, room, settings, words);
   if (want !== undefined && items.slice(-1 - want.length, -1).join('; ') !== want.join('; ')) {
     throw new Error(`${kind}, ${printed(tree)}, ${calls}: ${want.join('; ')} expected, and ${items.join('; ')} found`);
   }
@@ -44,27 +45,19 @@ function sessionVector(kind, tree, calls, { more, rooms, settings = ALL, want, c
   return items;
 }
 
-function answered(sections, sizes, rooms, settings, words) {
-  const session = new Session(treeOf(sections), sizes, rooms, settings);
-  return ['loaded', ...words.map((word) => (word === 'tree' ? printed(session.root) : session.call(word, sizes[0]))), session.end()];
-}
-
 // ---- Parts of payoffs ----
 
 const { string, number, boolean, name, hole, spread, array, dot, at, call, template, quasi, unary, binary, opaque } = make;
 const none = make.null;
 
 // What the table says of a node: what is known of literals and holes, and nothing of the others, unless it is told.
-const row = ({ effects = false, type = 0, global = false }) => (effects ? 128 : 0) + (global ? 64 : 0) + type;
 const rowOf = ({ kind }) => row({ 1: { type: STRING }, 2: { type: NUMBER }, 3: { type: BOOLEAN }, 4: { type: NULL }, 6: {} }[kind] || { effects: true });
-const [UNDETERMINED, UNDEFINED, NULL, NUMBER, BIGINT, STRING, BOOLEAN, OBJECT] = [0, 1, 2, 3, 4, 5, 6, 7];
-const told = (n, said) => ({ ...n, row: row(said) });
+const { UNDETERMINED, NULL, NUMBER, STRING, BOOLEAN, OBJECT } = TYPE;
 
 let mark = 0;
 const some = (said) => told(opaque([], mark++ % 10, 0), said);
 const p = () => some({ effects: true });
 const n = () => some({ type: NUMBER });
-const concat = (base, ...calls) => calls.reduce((x, args) => call(dot(x, 'concat'), args), base);
 const HOSTS = ['silent', 'structural', 'table'];
 const SETTINGS = [ALL, { templates: false, power: true }, { templates: true, power: false }, { templates: false, power: false }];
 const math = () => told(name('Math'), { effects: true, global: true });
@@ -406,39 +399,11 @@ for (const word of ['table=', 'table=00', 'table=0303', 'table=03030303030303030
 
 // ---- Payoffs by chance ----
 
-const SAID = [{ effects: true }, {}, { type: NUMBER }, { effects: true, type: NUMBER }, { type: OBJECT }, { type: STRING }, { effects: true, type: OBJECT }];
-const anyText = () => times(below(4), () => oneOf([...'ab$`\\\r{', 'é', '😀', '\ud83d', '\ude00'])).join('');
-const LEAVES = [() => string(anyText()), () => number(below(4)), () => number(below(4)), () => boolean(below(2) === 1), none, () => name(oneOf(['hub', 'Math', 'Array'])), () => opaque([], below(100), 0)];
-const CALLS = [
-  (d) => concat(oneOf([() => string(anyText()), () => array(times(below(3), () => anyElement(d)))])(), ...times(1 + below(3), () => times(below(4), () => anyArgument(d)))),
-  (d) => call(at(oneOf([string('a'), array([none()])]), string('concat')), times(below(3), () => anyArgument(d))),
-  (d) => call(dot(name('Math'), oneOf(['pow', 'pow', 'max'])), times(oneOf([1, 2, 2, 2, 3]), () => anyTree(d))),
-  (d) => call(dot(name('Array'), 'of'), times(below(3), () => anyArgument(d))),
-  (d) => at(anyTree(d), number(oneOf([0, 1, 2, -0, 0.5]))),
-  (d) => at(array(times(1 + below(3), () => anyElement(0))), number(below(3))),
-  (d) => at(string(anyText()), number(below(3))),
-];
-const PARENTS = [
-  (d) => array(times(below(4), () => anyElement(d))),
-  (d) => call(anyTree(d), times(below(3), () => anyArgument(d))),
-  (d) => template(times(2 * below(2) + 1, (_, k) => (k % 2 === 0 ? quasi(oneOf(['', 'a', '\\`', '\\n'])) : anyTree(d)))),
-  (d) => unary(oneOf(['plus', 'minus', 'void']), anyTree(d)),
-  (d) => binary(oneOf(['**', '-', '/']), anyTree(d), anyTree(d)),
-  (d) => opaque(times(1 + below(2), () => anyTree(d)), below(100), below(2)),
-  (d) => dot(anyTree(d), oneOf(['concat', 'length'])),
-];
-const anyTree = (d) => said(d === 0 || below(5) === 0 ? oneOf(LEAVES)() : below(3) === 0 ? oneOf(PARENTS)(d - 1) : oneOf(CALLS)(d - 1));
-const anyArgument = (d) => (below(8) === 0 ? said(spread(anyTree(d))) : anyTree(d));
-const anyElement = (d) => (below(6) === 0 ? hole() : anyArgument(d));
-const said = (x) => told(x, { ...oneOf(SAID), global: below(3) > 0 });
-const anyPayoff = () => { for (;;) { const tree = anyTree(4); if (inOrder(tree).length <= 40) return tree; } };
-const anyHost = () => oneOf(['silent', 'structural', 'structural', 'structural=4d617468', 'table', 'table', 'table']);
-const anyCall = () => (below(8) === 0 ? 'leave' : below(2) === 0 ? `enter:${below(3)}` : `${oneOf(['chain', 'method', 'property', 'chain', 'method', 'property', 'sweep'])}:${anyHost()}`);
 const anySettings = () => oneOf([ALL, ALL, ALL, ...SETTINGS]);
 for (let i = 0; i < 400; i++) {
   const tree = anyPayoff();
-  sessionVector('by chance', tree, [...times(below(4), anyCall), `sweep:${anyHost()}`, 'tree'], { settings: anySettings() });
-  sessionVector('by chance', tree, [...times(12, anyCall), 'tree', `sweep:${anyHost()}`, 'tree'], { settings: anySettings(), more: [below(12), below(12), below(12)] });
+  sessionVector('by chance', tree, [...times(below(4), () => anyCall()), `sweep:${anyHost()}`, 'tree'], { settings: anySettings() });
+  sessionVector('by chance', tree, [...times(12, () => anyCall()), 'tree', `sweep:${anyHost()}`, 'tree'], { settings: anySettings(), more: [below(12), below(12), below(12)] });
 }
 
 // ---- Lines that are no case ----
