@@ -19,3 +19,4 @@ pub mod Argued
 pub mod Finished
 pub mod ArgumentWalks
 pub mod CallWalks
+pub mod Faults

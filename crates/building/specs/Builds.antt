@@ -1,6 +1,7 @@
 -- What is built of a plan.
-use Rattle.std.specs.Prelude.{◌≡◌, ℕ, length, Ok, Result}
+use Rattle.std.specs.Prelude.{◌≡◌, ℕ, length, Ok, Result, IfErr, ◌⊎◌}
 use Rattle.base.specs.declared.fault.Fault.{Fault}
+use Rattle.base.specs.declared.fault.Fault.TheVariants.{Overfull, Malformed}
 use Rattle.store.specs.declared.stores.Stores.{Stores}
 use Rattle.store.specs.declared.stores.Counts.{Counts}
 use Rattle.store.specs.Stores.{held_of}
@@ -22,6 +23,10 @@ pub record Built (old : Stores) (y : Expression) (need : Counts) (new : Stores) 
   pub grew : GrowsBy old more new
   pub needed : counts more ≡ need
   pub denoted : Denotes (look (grown (held_of old) more)) (tree_of y)
+
+-- If it is refused, it is for want of room, or because a text or what was to be joined is unlawful or not there.
+abbrev pub LacksRoomOrText : {X : Type 0} → Result X Fault → Type 0
+LacksRoomOrText r = IfErr r (λ e. (e ≡ Overfull) ⊎ (e ≡ Malformed))
 
 -- Where there is room, the plan is built: whichever expression it is for.
 abbrev pub Builds : (old : Stores) (plan : Plan) (new : Stores) → Result ℕ Fault → Type 0

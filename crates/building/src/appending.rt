@@ -1,5 +1,6 @@
 // Appending a node or a list, and pieces of the stores.
-ghost use Rattle.std.specs.Prelude.{◌≤◌, length};
+ghost use Rattle.std.specs.Prelude.{◌≤◌, length, IsOkUnless};
+ghost use Rattle.base.specs.declared.fault.Fault.TheVariants.{Overfull};
 ghost use Rattle.store.specs.Held.{held};
 ghost use Rattle.building.specs.Growing.{Pushes, RunBetween};
 ghost use Rattle.building.specs.Lists.{AppendsList, LiesBehind};
@@ -10,7 +11,8 @@ use tree::{ListRun, Node, Run};
 
 // Appends a node, and answers its number.
 pub(crate) fn push(stores: &mut Stores<'_>, node: Node) -> Result<u32, Fault>
-    ensures { Pushes stores.old node stores.new result }
+    ensures pushes { Pushes stores.old node stores.new result }
+    ensures fault { IsOkUnless result Overfull }
 {
     let Ok(number) = u32::try_from(stores.nodes.count()) else {
         return Err(Fault::Overfull);
@@ -23,6 +25,7 @@ pub(crate) fn push(stores: &mut Stores<'_>, node: Node) -> Result<u32, Fault>
 pub(crate) fn append_list(stores: &mut Stores<'_>, list: ListRun) -> Result<(), Fault>
     ensures lists { AppendsList stores.old list stores.new result }
     ensures grows { length (held stores.old.entries) ≤ length (held stores.new.entries) }
+    ensures fault { IsOkUnless result Overfull }
 {
     stores
         .entries
@@ -31,7 +34,8 @@ pub(crate) fn append_list(stores: &mut Stores<'_>, list: ListRun) -> Result<(), 
 
 // A piece of a store, by where it begins and where it ends.
 pub(crate) fn run_between<T>(start: usize, end: usize) -> Result<Run<T>, Fault>
-    ensures { RunBetween start end result }
+    ensures run { RunBetween start end result }
+    ensures fault { IsOkUnless result Overfull }
 {
     if start > end {
         return Err(Fault::Overfull);

@@ -1,5 +1,6 @@
 // Arrays whose elements are written anew.
-ghost use Rattle.std.specs.Prelude.{◌≡◌, ◌≤◌, length};
+ghost use Rattle.std.specs.Prelude.{◌≡◌, ◌≤◌, length, IsOkUnless};
+ghost use Rattle.base.specs.declared.fault.Fault.TheVariants.{Overfull};
 ghost use Rattle.store.specs.Held.{held};
 ghost use Rattle.deciding.specs.declared.plan.Plan.TheVariants.{Merged, ConcatLeft};
 ghost use Rattle.building.specs.Builds.{Builds};
@@ -16,7 +17,8 @@ pub(crate) fn build_merged(
     elements: ListRun,
     arguments: ListRun,
 ) -> Result<u32, Fault>
-    ensures { Builds stores.old (Merged elements arguments) stores.new result }
+    ensures builds { Builds stores.old (Merged elements arguments) stores.new result }
+    ensures fault { IsOkUnless result Overfull }
 {
     let list = write_elements(stores, elements, arguments)?;
     push(stores, Node::Array(list))
@@ -30,7 +32,8 @@ pub(crate) fn build_concat_left(
     arguments: ListRun,
     taken: usize,
 ) -> Result<u32, Fault>
-    ensures { Builds stores.old (ConcatLeft callee elements arguments taken) stores.new result }
+    ensures builds { Builds stores.old (ConcatLeft callee elements arguments taken) stores.new result }
+    ensures fault { IsOkUnless result Overfull }
 {
     let Some(left) = behind(arguments, taken) else {
         return Err(Fault::Overfull);
@@ -56,7 +59,8 @@ fn write_elements(
     elements: ListRun,
     arguments: ListRun,
 ) -> Result<ListRun, Fault>
-    ensures { WritesElements stores.old elements arguments stores.new result }
+    ensures writes { WritesElements stores.old elements arguments stores.new result }
+    ensures fault { IsOkUnless result Overfull }
 {
     let start = stores.entries.count();
     append_list(stores, elements)?;
@@ -68,6 +72,7 @@ fn write_elements(
 fn append_taken(stores: &mut Stores<'_>, arguments: ListRun) -> Result<(), Fault>
     ensures takes_in { TakesInAll stores.old arguments stores.new result }
     ensures grows { length (held stores.old.entries) ≤ length (held stores.new.entries) }
+    ensures fault { IsOkUnless result Overfull }
 {
     for i in 0..arguments.len {
         let argument = stores
@@ -86,6 +91,7 @@ fn append_taken(stores: &mut Stores<'_>, arguments: ListRun) -> Result<(), Fault
 fn take_in(stores: &mut Stores<'_>, argument: u32) -> Result<bool, Fault>
     ensures takes_in { TakesInArgument stores.old argument stores.new result }
     ensures grows { length (held stores.old.entries) ≤ length (held stores.new.entries) }
+    ensures fault { IsOkUnless result Overfull }
 {
     match stores.node(argument) {
         Some(Node::Array(elements)) => append_list(stores, elements)?,

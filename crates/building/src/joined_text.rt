@@ -1,4 +1,6 @@
 // Joining one text behind another in the text store.
+ghost use Rattle.std.specs.Prelude.{IsOkUnless};
+ghost use Rattle.base.specs.declared.fault.Fault.TheVariants.{Overfull};
 ghost use Rattle.building.specs.Texts.{SeamOf, JoinsText};
 
 use base::Fault;
@@ -9,7 +11,8 @@ use tree::TextRun;
 // Joins a text that is held further in front to the one that is held from `start` on, up to the store's end. Where the
 // first half of a pair meets the second one, the two become one character.
 pub(crate) fn join_text(text: &mut Store<'_, u8>, start: usize, run: TextRun) -> Result<(), Fault>
-    ensures { JoinsText text.old start run text.new result }
+    ensures joins { JoinsText text.old start run text.new result }
+    ensures fault { IsOkUnless result Overfull }
 {
     let from = run.start as usize;
     let len = run.len as usize;

@@ -1,5 +1,5 @@
 // Templates, and strings, of a base text and of arguments.
-ghost use Rattle.building.specs.Builds.{Builds};
+ghost use Rattle.building.specs.Builds.{Builds, LacksRoomOrText};
 ghost use Rattle.building.specs.Joined.{BaseOf, JoinsCalls};
 ghost use Rattle.deciding.specs.declared.plan.Plan.TheVariants.{Joined};
 ghost use Rattle.store.specs.Stores.{held_of};
@@ -12,7 +12,8 @@ use tree::{ListRun, Node, TextRun};
 
 // Builds the template, or the string, of a base text and of the arguments of the calls, and answers its number.
 pub(crate) fn build_joined(stores: &mut Stores<'_>, calls: Calls) -> Result<u32, Fault>
-    ensures { Builds stores.old (Joined calls) stores.new result }
+    ensures builds { Builds stores.old (Joined calls) stores.new result }
+    ensures fault { LacksRoomOrText result }
 {
     match calls {
         Calls::One { base, arguments } => join_calls(stores, base, &[arguments]),
@@ -30,7 +31,8 @@ pub(crate) fn build_joined(stores: &mut Stores<'_>, calls: Calls) -> Result<u32,
 
 // Joins the arguments of each call to the base text, in order.
 fn join_calls(stores: &mut Stores<'_>, base: TextRun, calls: &[ListRun]) -> Result<u32, Fault>
-    ensures { JoinsCalls stores.old base calls.now stores.new result }
+    ensures joins { JoinsCalls stores.old base calls.now stores.new result }
+    ensures fault { LacksRoomOrText result }
 {
     let mut builder = TemplateBuilder::begin(stores, base)?;
     for arguments in calls {

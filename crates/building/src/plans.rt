@@ -1,6 +1,8 @@
 // What is built, by the kind of the plan.
+ghost use Rattle.std.specs.Prelude.{IsOkUnless};
+ghost use Rattle.base.specs.declared.fault.Fault.TheVariants.{Overfull};
 ghost use Rattle.deciding.specs.declared.plan.Plan.TheVariants.{Unit as UnitPlan, VoidZero, Power};
-ghost use Rattle.building.specs.Builds.{Builds};
+ghost use Rattle.building.specs.Builds.{Builds, LacksRoomOrText};
 
 use super::appending::{push, run_between};
 use super::arrays::{build_concat_left, build_merged};
@@ -14,7 +16,8 @@ use tree::{BinaryOperator, Node, UnaryOperator};
 
 // Builds what a plan is for, and answers its number.
 pub fn build(stores: &mut Stores<'_>, plan: Plan) -> Result<u32, Fault>
-    ensures { Builds stores.old plan stores.new result }
+    ensures builds { Builds stores.old plan stores.new result }
+    ensures fault { LacksRoomOrText result }
 {
     match plan {
         Plan::Existing(node) => Ok(node),
@@ -36,7 +39,8 @@ pub fn build(stores: &mut Stores<'_>, plan: Plan) -> Result<u32, Fault>
 
 // A string of one unit.
 fn build_unit(stores: &mut Stores<'_>, unit: u16) -> Result<u32, Fault>
-    ensures { Builds stores.old (UnitPlan unit) stores.new result }
+    ensures builds { Builds stores.old (UnitPlan unit) stores.new result }
+    ensures fault { IsOkUnless result Overfull }
 {
     let bytes = Encoded::new(u32::from(unit)).ok_or(Fault::Overfull)?;
     let start = stores.text.count();
@@ -47,7 +51,8 @@ fn build_unit(stores: &mut Stores<'_>, unit: u16) -> Result<u32, Fault>
 
 // `void 0`.
 fn build_void_zero(stores: &mut Stores<'_>) -> Result<u32, Fault>
-    ensures { Builds stores.old VoidZero stores.new result }
+    ensures builds { Builds stores.old VoidZero stores.new result }
+    ensures fault { IsOkUnless result Overfull }
 {
     let operand = push(stores, Node::Number(0))?;
     push(
@@ -61,7 +66,8 @@ fn build_void_zero(stores: &mut Stores<'_>) -> Result<u32, Fault>
 
 // `base ** exponent`.
 fn build_power(stores: &mut Stores<'_>, base: u32, exponent: Exponent) -> Result<u32, Fault>
-    ensures { Builds stores.old (Power base exponent) stores.new result }
+    ensures builds { Builds stores.old (Power base exponent) stores.new result }
+    ensures fault { IsOkUnless result Overfull }
 {
     let right = match exponent {
         Exponent::Number(number) => number,

@@ -1,4 +1,5 @@
 // The texts of a quasi.
+ghost use Rattle.building.specs.Builds.{LacksRoomOrText};
 ghost use Rattle.building.specs.Quasis.{WritesQuasi};
 
 use super::appending::run_between;
@@ -10,7 +11,8 @@ use tree::Node;
 // The quasi of the text that is held from `start` on. Its raw text is written behind it where that is another, and else
 // stands where the text itself does.
 pub(crate) fn write_quasi(text: &mut Store<'_, u8>, start: usize) -> Result<Node, Fault>
-    ensures { WritesQuasi text.old start text.new result }
+    ensures writes { WritesQuasi text.old start text.new result }
+    ensures fault { LacksRoomOrText result }
 {
     let end = text.count();
     let cooked = run_between(start, end)?;

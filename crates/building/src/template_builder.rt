@@ -1,4 +1,6 @@
-ghost use Rattle.std.specs.Prelude.{◌≡◌};
+ghost use Rattle.std.specs.Prelude.{IsOkUnless};
+ghost use Rattle.base.specs.declared.fault.Fault.TheVariants.{Overfull};
+ghost use Rattle.building.specs.Builds.{LacksRoomOrText};
 ghost use Rattle.building.specs.Templates.{Begins, EndsQuasi, Adds, AddsArguments, Finishes};
 
 use super::appending::{push, run_between};
@@ -19,7 +21,8 @@ pub(crate) struct TemplateBuilder {
 impl TemplateBuilder {
     // Begins with a base text.
     pub(crate) fn begin(stores: &mut Stores<'_>, base: TextRun) -> Result<TemplateBuilder, Fault>
-        ensures { Begins stores.old base stores.new result }
+        ensures begins { Begins stores.old base stores.new result }
+        ensures fault { IsOkUnless result Overfull }
     {
         let builder = TemplateBuilder {
             first_entry: stores.entries.count(),
@@ -35,7 +38,8 @@ impl TemplateBuilder {
         stores: &mut Stores<'_>,
         arguments: ListRun,
     ) -> Result<(), Fault>
-        ensures { AddsArguments self.old stores.old arguments self.new stores.new result }
+        ensures adds { AddsArguments self.old stores.old arguments self.new stores.new result }
+        ensures fault { LacksRoomOrText result }
     {
         for i in 0..arguments.len {
             let Some(number) = stores.entries.get(arguments.start as usize + i as usize) else {
@@ -48,7 +52,8 @@ impl TemplateBuilder {
 
     // Adds an argument: a string joins the text, a spread has no place in a template, and any other ends a quasi.
     fn add(&mut self, stores: &mut Stores<'_>, number: u32) -> Result<(), Fault>
-        ensures { Adds self.old stores.old number self.new stores.new result }
+        ensures adds { Adds self.old stores.old number self.new stores.new result }
+        ensures fault { LacksRoomOrText result }
     {
         let Some(argument) = stores.node(number) else {
             return Err(Fault::Malformed);
@@ -65,7 +70,8 @@ impl TemplateBuilder {
 
     // Ends a quasi with the text so far, begins the next text, and answers the quasi's number.
     fn end_quasi(&mut self, stores: &mut Stores<'_>) -> Result<u32, Fault>
-        ensures { EndsQuasi self.old stores.old self.new stores.new result }
+        ensures ends { EndsQuasi self.old stores.old self.new stores.new result }
+        ensures fault { LacksRoomOrText result }
     {
         let quasi = write_quasi(&mut stores.text, self.text_start)?;
         let number = push(stores, quasi)?;
@@ -75,7 +81,8 @@ impl TemplateBuilder {
 
     // Ends the template, and answers its number. Without an expression it is a string, and no quasi is made.
     pub(crate) fn finish(mut self, stores: &mut Stores<'_>) -> Result<u32, Fault>
-        ensures { Finishes self stores.old stores.new result }
+        ensures finishes { Finishes self stores.old stores.new result }
+        ensures fault { LacksRoomOrText result }
     {
         if stores.entries.count() == self.first_entry {
             let text = run_between(self.text_start, stores.text.count())?;

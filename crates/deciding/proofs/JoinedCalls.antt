@@ -18,7 +18,7 @@ use Rattle.deciding.specs.declared.concat_chain.ConcatChain.{ConcatChain}
 use Rattle.deciding.specs.declared.pieces.Pieces.{Pieces}
 use Rattle.deciding.specs.Standing.{Stands, argument_parts, Spells}
 use Rattle.deciding.specs.ConcatCalls.{CallsStand, Rooted, Collects, calls_of}
-use Rattle.deciding.specs.Needs.{CountsCalls, BasedOn, JoinsTo, JoinsChain}
+use Rattle.deciding.specs.Needs.{CountsCalls, CountsChain, calls_in, BasedOn, JoinsTo, JoinsChain}
 use Rattle.deciding.specs.Reached.{Reached, needed, nothing_read, with_text, with_part, with_parts, size, Tells, IsEmpty, ReadsText, ReadsAll, TakesAll}
 use Rattle.deciding.proofs.ChainCounts.{counted_one, counted_more, no_arguments_none}
 use Rattle.deciding.proofs.ChainWalks.{call_at, behind_it, calls_end, flat_front}
@@ -51,6 +51,21 @@ calls_counted runs len k w le h xss s =
     let a = w.behind h xss s in
     let b = ap (λ z. argument_count (flat z)) (calls_end h runs k xss s le) ∙ no_arguments_none in
     omega (arith, a, b)
+
+-- Those of a chain that was collected, or of none.
+rooted_calls : (r : Root) (f : Expression) (xss : List Arguments) (c : Chain) → Rooted r f xss c → calls_in c ≡ xss
+unfolding calls_in
+rooted_calls String f xss c w = ap calls_in w.1
+rooted_calls Array f xss c w = ap calls_in w
+
+pub chain_counted : (h : Held) (call : ℕ) (k : ConcatChain) → Collects h call (Some k) → (calls : List (Run ℕ)) (len : ℕ) → calls ≡ calls_of k → CountsCalls calls len → CountsChain h call len
+chain_counted h call k found calls len is counted limits x s =
+    let w = found limits.0 x s in
+    counted h w.calls (subst (λ z. CallsStand h z w.calls) (sym is) w.calls_stand) ∙ ap (λ z. argument_count (flat z)) (sym (rooted_calls k.root w.callee w.calls (chain_of x) w.rooted))
+
+pub no_chain_counted : (h : Held) (call : ℕ) → Collects h call None → CountsChain h call 0
+unfolding calls_in
+no_chain_counted h call found limits x s = sym (ap (λ c. argument_count (flat (calls_in c))) (found limits.0 x s) ∙ no_arguments_none)
 
 -- ---- all parts
 

@@ -1,5 +1,5 @@
 -- What a plan needs is the space that the rules count.
-use Rattle.std.proofs.Common.{◌≡◌, ℕ, ◌+◌, ◌≤◌, true, false, cond, inl, [], ◌∷◌, length, nat_le, refl, sym, subst, ap, ◌∙◌, arith}
+use Rattle.std.proofs.Common.{◌≡◌, ℕ, ◌+◌, ◌≤◌, true, false, cond, ◌⊎◌, inl, inr, List, [], ◌∷◌, length, nat_le, refl, sym, subst, ap, ◌∙◌, arith}
 use Rattle.std.proofs.lemmas.Bool.Decides.{nat_tests}
 use Rattle.text.specs.Stored.{stored}
 use Rattle.store.specs.declared.stores.Counts.{Counts}
@@ -11,6 +11,7 @@ use Rattle.tree.specs.Heap.{Held, look}
 use Rattle.meaning.specs.Expression.{Expression, Elements, Arguments, Units}
 use Rattle.meaning.specs.Trees.{tree_of, element_trees, argument_trees}
 use Rattle.rules.specs.Building.{elements_of, append_elements, append_arguments, flat, joined, with_object, void_zero}
+use Rattle.rules.specs.Chain.{Chain, chain_of}
 use Rattle.rules.specs.Interleaves.{argument_count}
 use Rattle.rules.specs.Method.{Callee, callee_of}
 use Rattle.rules.specs.Space.{bytes_of, element_count, elements_from, elements_or_arguments, entries_of_call, new_entries, space}
@@ -19,7 +20,7 @@ use Rattle.deciding.specs.declared.plan.Plan.{Plan}
 use Rattle.deciding.specs.declared.plan.Plan.TheVariants.{Existing, Unit as UnitPlan, VoidZero, Power, ArrayOf, Merged, ConcatLeft, OneCall, Joined}
 use Rattle.deciding.specs.declared.plan.Exponent.TheVariants.{Number, Coerced}
 use Rattle.deciding.specs.declared.plan.Calls.TheVariants.{One, Chain as ChainOf}
-use Rattle.deciding.specs.Needs.{PutsIn, StoresUnit, MergesTo, CountsChain, JoinsTo, JoinsChain, NeedOf}
+use Rattle.deciding.specs.Needs.{PutsIn, StoresUnit, MergesTo, CountsChain, JoinsTo, JoinsChain, NeedOf, calls_in}
 use Rattle.deciding.proofs.Spaces.{Takes, takes_nothing, takes_both, takes_new, space_is, held_number, entries_held, denoted, all_denoted, elements_held, arguments_held, append_held, as_elements_held, taken_held, left_held, chain_arguments_held, joined_space}
 
 -- ---- entries
@@ -49,6 +50,11 @@ unfolding entries_of_call
 one_call_entries h (Expression.static_member m o k) xs d = or_arguments h o xs d.1.0
 one_call_entries h (Expression.computed_member m o k) xs d = or_arguments h o xs d.1.0
 one_call_entries h g xs d = refl
+
+calls_are : (c : Chain) (g : Expression) (xss : List Arguments) → ((u : Units) × (c ≡ Chain.of_string g u xss)) ⊎ (c ≡ Chain.of_array g xss) → calls_in c ≡ xss
+unfolding calls_in
+calls_are c g xss (inl e) = ap calls_in e.1
+calls_are c g xss (inr e) = ap calls_in e
 
 -- ---- a new member of a new array
 
@@ -156,7 +162,7 @@ module _ (h : Held) where
       let xs = flat p.2 in
       let held = chain_arguments_held h p.1 g p.2 p.5.denoted p.6 in
       let t = takes_new next next Own.call (more (tree_of g) (argument_trees xs)) _ _ (omega arith) (takes_both next (tree_of g) (argument_trees xs) 0 0 0 0 (denoted h (tree_of g) p.4.denoted) (all_denoted h (argument_trees xs) held)) in
-      counted x y (Expression.call next g xs) 1 len _ _ need puts p.3 t refl (counts limits p.1 g p.2 p.5 p.6 ∙ one_call_entries h g xs p.4.denoted ∙ call_entries next next x g xs (omega arith)) refl
+      counted x y (Expression.call next g xs) 1 len _ _ need puts p.3 t refl (counts limits p.1 p.5 ∙ ap (λ z. argument_count (flat z)) (calls_are (chain_of p.1) g p.2 p.6) ∙ one_call_entries h g xs p.4.denoted ∙ call_entries next next x g xs (omega arith)) refl
 
   flat_one : (xs : Arguments) → flat (xs ∷ []) ≡ xs
   unfolding flat append_arguments

@@ -1,5 +1,5 @@
 -- How much space a plan takes in the stores.
-use Rattle.std.specs.Prelude.{◌≡◌, ℕ, List, [], ◌∷◌, length, Some, None, Option, ◌⊎◌}
+use Rattle.std.specs.Prelude.{◌≡◌, ℕ, List, [], ◌∷◌, length, Some, None, Option}
 use Rattle.text.specs.Stored.{stored}
 use Rattle.store.specs.declared.stores.Counts.{Counts}
 use Rattle.tree.specs.declared.run.Run.{Run}
@@ -50,11 +50,15 @@ MergesTo h elements arguments len =
 abbrev pub CountsCalls : List (Run ℕ) → ℕ → Type 0
 CountsCalls calls len = (h : Held) (xss : List Arguments) → CallsStand h calls xss → len ≡ argument_count (flat xss)
 
--- And of the chain that ends with a call.
+-- The arguments of each call of a chain. Where there is no chain there are none.
+unfoldable pub calls_in : Chain → List Arguments
+calls_in (Chain.of_string g u xss) = xss
+calls_in (Chain.of_array g xss) = xss
+calls_in Chain.none = []
+
+-- And of the chain that ends with a call, if one does.
 abbrev pub CountsChain : Held → ℕ → ℕ → Type 0
-CountsChain h call len =
-    WithinLimits h → (x g : Expression) (xss : List Arguments) → Stands h call (Part.expression x) → ((u : Units) × (chain_of x ≡ Chain.of_string g u xss)) ⊎ (chain_of x ≡ Chain.of_array g xss)
-    → len ≡ argument_count (flat xss)
+CountsChain h call len = WithinLimits h → (x : Expression) → Stands h call (Part.expression x) → len ≡ argument_count (flat (calls_in (chain_of x)))
 
 -- The text of the string that a static member is of.
 abbrev pub BaseIs : Held → Units → Option (Run ℕ) → Type 0

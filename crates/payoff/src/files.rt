@@ -155,3 +155,72 @@ fn print_end(rt: &impl Print, path: &str, ended: &Ended<'_>, answer: Answer) -> 
 fn refusal(fault: Fault) -> anyhow::Error {
     anyhow!("{}: {fault}", Reply::Refused(fault))
 }
+
+#[cfg(test)]
+mod tests {
+    use super::*;
+
+    // What is printed for each fault.
+    const IN_WORDS: [(Fault, &str); 13] = [
+        (
+            Fault::BadHeader,
+            "refused 1 layer 2 node 0: the file is shorter than a header, or of another version",
+        ),
+        (
+            Fault::BadSizes,
+            "refused 2 layer 2 node 0: its counts are out of range, or its sections do not fill it",
+        ),
+        (
+            Fault::StoresTooSmall,
+            "refused 3 layer 2 node 0: the stores are too small for the file",
+        ),
+        (
+            Fault::BadRecord(4095),
+            "refused 4 layer 2 node 4095: the record of node 4095 is unlawful on its own",
+        ),
+        (
+            Fault::BadLink(17),
+            "refused 5 layer 2 node 17: the root is wrong, or node 17 has a wrong link or a wrong number of parents",
+        ),
+        (
+            Fault::NoChild(3),
+            "refused 6 layer 3 node 3: node 3 has no such child",
+        ),
+        (
+            Fault::PathFull(256),
+            "refused 7 layer 3 node 256: the path to node 256 is too long to go further",
+        ),
+        (
+            Fault::AtRoot(12),
+            "refused 8 layer 3 node 12: node 12 is the root",
+        ),
+        (
+            Fault::NodesFull(9),
+            "refused 9 layer 2 node 9: there is no space for the nodes that are to replace node 9",
+        ),
+        (
+            Fault::EntriesFull(10),
+            "refused 10 layer 2 node 10: there is no space for the lists of what is to replace node 10",
+        ),
+        (
+            Fault::TextFull(0),
+            "refused 11 layer 2 node 0: there is no space for the texts of what is to replace node 0",
+        ),
+        (
+            Fault::Malformed,
+            "refused 12 layer 1 node 0: the text is unlawful, or the raw template text malformed",
+        ),
+        (
+            Fault::Overfull,
+            "refused 13 layer 1 node 0: the output is too small",
+        ),
+    ];
+
+    #[test]
+    fn each_fault_in_words(rt: HostRuntime) {
+        for (fault, words) in IN_WORDS {
+            let printed = format!(in rt.alloc(); "{}", refusal(fault)).expect(&rt, "memory");
+            assert_eq!(rt; printed.as_str(), words);
+        }
+    }
+}

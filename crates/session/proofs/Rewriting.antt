@@ -42,6 +42,21 @@ module _ (h : Held) (q i n : ℕ) where
   pub relinked_counts : counts (relinked h q i n) ≡ counts h
   relinked_counts = linked_counts (slice_get h.nodes q)
 
+  -- And the text.
+  text_by_kind : (r : Node) (b c : Bool)
+      → (cond b (record { nodes = set h.nodes q (with_link r i n); entries = h.entries; text = h.text })
+      (cond c (record { nodes = h.nodes; entries = set h.entries ((list_of r).start + (i - length (links r))) n; text = h.text }) h)).text ≡ h.text
+  text_by_kind r true c = refl
+  text_by_kind r false true = refl
+  text_by_kind r false false = refl
+
+  linked_text : (r : Option Node) → (linked_at h q r i n).text ≡ h.text
+  linked_text None = refl
+  linked_text (Some r) = text_by_kind r (ltb i (length (links r))) (ltb (i - length (links r)) (list_of r).len)
+
+  pub relinked_text : (relinked h q i n).text ≡ h.text
+  relinked_text = linked_text (slice_get h.nodes q)
+
 -- And what is appended adds to them.
 pub grown_counts : (h extra : Held) → counts (grown h extra) ≡ record { nodes = length h.nodes + length extra.nodes; entries = length h.entries + length extra.entries; text = length h.text + length extra.text }
 grown_counts h extra =

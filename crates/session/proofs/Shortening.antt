@@ -1,5 +1,6 @@
 -- Calls are made one after the other, and what is left is shortened.
 use Rattle.std.proofs.Common.{◌≡◌, ℕ, zero, suc, ◌+◌, ◌<◌, ◌≤◌, List, [], ◌∷◌, ◌++◌, length, take, drop, set, get_or, map, min, inl, inr, refl, sym, ap, subst, ◌∙◌, arith}
+use Rattle.std.proofs.Math.Logic.{∥∥₁_map}
 use Rattle.std.proofs.lemmas.Bool.{cases_lt}
 use Rattle.std.proofs.lemmas.List.{drop-set-lt, append_assoc, append-nil, map-append, take_all, take_more, take_more_set}
 use Rattle.tree.specs.Tree.{Tree}
@@ -21,7 +22,10 @@ use Rattle.session.specs.declared.session.Session.{Session}
 use Rattle.session.specs.declared.session.ends.Ended.{Ended}
 use Rattle.session.specs.Following.{Is, given_of, OpensOn, EndsWith}
 use Rattle.session.specs.Calling.{call_of, answer_of, MakesCall}
-use Rattle.session.specs.Running.{Shortened, RunsCalls, given_by}
+use Rattle.session.specs.Trying.{Holds, Written, Writes}
+use Rattle.session.specs.Running.{Shortened, GivesBack, RunsCalls, given_by}
+use Rattle.session.proofs.Tried.{equal_from}
+use Rattle.session.proofs.Writing.{wrote_none, wrote_then, text_kept}
 
 -- ---- one more call
 
@@ -56,18 +60,20 @@ module _ {H : Type 0} (a : H → Answers) where
   -- What is known when the first calls are made.
   pub record Going (start now : Session) (calls : List (CallValue H)) (old new : List AnswerValue) (i : ℕ) : Type 0 where
     pub given : given_of now ≡ given_of start
+    pub wrote : ∥ Writes start now ∥₁
     pub kept : drop i new ≡ drop i old
     pub so_far : (m : Model) → Is start m
         → (n : Model) × ((ts : List Try) × MakesAll (given_of start) m (map (call_of a) (take i calls)) (map answer_of (take i new)) n ts) × Is now n
 
   pub none_made : (s : Session) (calls : List (CallValue H)) (old : List AnswerValue) → Going s s calls old old 0
-  none_made s calls old = record { given = refl; kept = refl; so_far = λ m is. (m, ([], MakesAll.none), is) }
+  none_made s calls old = record { given = refl; wrote = wrote_none s; kept = refl; so_far = λ m is. (m, ([], MakesAll.none), is) }
 
   module _ (start now : Session) (calls : List (CallValue H)) (old new : List AnswerValue) (i : ℕ) (going : Going start now calls old new i) where
     pub call_made : (next : Session) (c : CallValue H) (r : AnswerValue) → i < length calls → i < length new → c ≡ get_or calls i c
-        → MakesCall a c now next r → given_of next ≡ given_of now → Going start next calls old (set new i r) (i + 1)
-    call_made next c r low there is_c made same = record {
+        → MakesCall a c now next r → ∥ Writes now next ∥₁ → given_of next ≡ given_of now → Going start next calls old (set new i r) (i + 1)
+    call_made next c r low there is_c made wrote same = record {
       given = same ∙ going.given;
+      wrote = wrote_then start now next going.wrote wrote;
       kept = drop-set-lt (i + 1) new i r (omega arith) ∙ further new i ∙ ap (drop 1) going.kept ∙ sym (further old i);
       so_far = λ m is.
           let x = going.so_far m is in
@@ -124,6 +130,29 @@ module _ {H : Type 0} (a : H → Answers) where
           bounded = λ y s. omega (arith, end.1, counts.2 y s);
         }
 
+    not_begun : start.rewrites ≡ 0
+    not_begun = equal_from d.payoff start.rewrites 0 (λ p. let o = opens.opened p.0 p.1 in sym o.2.counted ∙ o.1.none_made)
+
+    all_counted : e.rewrites ≡ now.rewrites
+    all_counted = equal_from now.sound e.rewrites now.rewrites (λ p. sym (ends.of_model p.0 p.1).1 ∙ p.1.counted)
+
+    gives_back : ∥ GivesBack d e ∥₁
+    gives_back = ∥∥₁_map going.wrote (λ w.
+        let s : now.stores ≡ e.stores = sym ends.given_back in
+        let number : w.count ≡ e.rewrites = omega (arith, w.counted, not_begun, all_counted) in
+        let written : Written e.rewrites (held_of (loaded_stores d)) (held_of e.stores) =
+        subst (λ n. Written n (held_of (loaded_stores d)) (held_of e.stores)) number
+        (subst (λ k. Written w.count (held_of k) (held_of e.stores)) opens.holds
+        (subst (λ k. Written w.count (held_of start.stores) (held_of k)) s w.written)) in
+        let text = text_kept written in
+        record {
+          written = written;
+          holds = subst (λ k. Holds k (held_of e.stores) e.stores) opens.holds (subst (λ k. Holds start.stores (held_of k) k) s w.holds);
+          new_text = text.0;
+          text_kept = text.1;
+          same_rooms = ap rooms_of ends.given_back ∙ ap (λ g. g.rooms) going.given ∙ ap rooms_of opens.holds;
+        })
+
     rest_kept : drop (length calls) new ≡ drop (length calls) old
     rest_kept = elim (cases_lt (length old) (length calls)) [
       | inl lt ↦ drop_all (length calls) new (omega (arith, same_length)) ∙ sym (drop_all (length calls) old (omega arith))
@@ -131,4 +160,4 @@ module _ {H : Type 0} (a : H → Answers) where
     ]
 
     pub runs : RunsCalls w a d support calls old new e
-    runs = record { shortened = shortened; others_kept = rest_kept }
+    runs = record { shortened = shortened; given_back = gives_back; others_kept = rest_kept }

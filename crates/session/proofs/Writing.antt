@@ -1,6 +1,7 @@
 -- What the stores hold after some calls.
-use Rattle.std.proofs.Common.{◌≡◌, ℕ, zero, suc, ◌+◌, ◌≤◌, List, [], ◌∷◌, ◌++◌, length, take, drop, Ok, Err, Result, refl, sym, ap, subst, ◌∙◌, arith}
+use Rattle.std.proofs.Common.{◌≡◌, ℕ, zero, suc, ◌+◌, ◌≤◌, List, [], ◌∷◌, ◌++◌, length, take, drop, Some, None, Option, Ok, Err, Result, refl, sym, ap, subst, ◌∙◌, arith}
 use Rattle.std.proofs.Math.Logic.{∥∥₁_map, ∥∥₁_map₂}
+use Rattle.std.proofs.lemmas.List.{append_assoc, append-nil}
 use Rattle.std.proofs.lemmas.Slice.{drop-append-drop}
 use Rattle.base.specs.declared.fault.Fault.{Fault}
 use Rattle.tree.specs.Heap.{Held, grown}
@@ -9,10 +10,11 @@ use Rattle.store.specs.declared.store.Store.{Store}
 use Rattle.store.specs.Held.{held, lent, Refilled}
 use Rattle.store.specs.Stores.{held_of}
 use Rattle.model.specs.declared.answer.Outcome.{Outcome}
+use Rattle.session.specs.declared.step.Step.{Step}
 use Rattle.session.specs.declared.session.Session.{Session}
 use Rattle.session.specs.Following.{SamePayoff}
 use Rattle.session.specs.Trying.{Holds, Appends, Appended, Written, Writes, hung, parent_of}
-use Rattle.session.proofs.Rewriting.{grown_counts}
+use Rattle.session.proofs.Rewriting.{grown_counts, relinked_text}
 use Rattle.session.proofs.Tried.{hung_counts, same_held}
 
 split_front : {X : Type 0} (n : ℕ) (xs : List X) → xs ≡ take n xs ++ drop (length (take n xs)) xs
@@ -54,6 +56,19 @@ no_fewer (Written.then {h = h} link extra number w) =
 written_then : {n m : ℕ} {h j k : Held} → Written n h j → Written m j k → Written (n + m) h k
 written_then {m = m} {h = h} {k = k} Written.none w = subst (λ i. Written i h k) (omega arith) w
 written_then {m = m} {k = k} (Written.then {n = n} {h = h} link extra number v) w = subst (λ i. Written i h k) (omega arith) (Written.then link extra number (written_then v w))
+
+-- No rewrite changes a byte of the text that is held.
+hung_text : (o : Option Step) (h : Held) (n : ℕ) → (hung o h n).text ≡ h.text
+hung_text None h n = refl
+hung_text (Some t) h n = relinked_text h t.node t.child n
+
+pub text_kept : {n : ℕ} {h k : Held} → Written n h k → (more : List ℕ) × (k.text ≡ h.text ++ more)
+text_kept (Written.none {h = h}) = ([], sym (append-nil h.text))
+text_kept (Written.then {h = h} link extra number w) =
+    let r = text_kept w in (
+      extra.text ++ r.0,
+      r.1 ∙ ap (λ bs. bs ++ r.0) (hung_text link (grown h extra) number) ∙ append_assoc h.text extra.text r.0,
+    )
 
 -- ---- sessions
 

@@ -1,5 +1,5 @@
 -- What comes of a whole session.
-use Rattle.std.specs.Prelude.{◌≡◌, ◌≤◌, List, map, take, drop, length}
+use Rattle.std.specs.Prelude.{◌≡◌, ℕ, ◌≤◌, List, ◌++◌, map, take, drop, length}
 use Rattle.tree.specs.Tree.{Tree, label, Denotes}
 use Rattle.tree.specs.Heap.{look}
 use Rattle.tree.specs.Lawful.{Payoff}
@@ -23,6 +23,7 @@ use Rattle.session.specs.declared.call.Call.{Call as CallValue}
 use Rattle.session.specs.declared.call.Answer.{Answer as AnswerValue}
 use Rattle.session.specs.declared.session.ends.Ended.{Ended}
 use Rattle.session.specs.Calling.{call_of, answer_of}
+use Rattle.session.specs.Trying.{Holds, Written}
 
 -- What is supported, and how much room the stores have.
 abbrev pub given_by : Loaded → Support → Given
@@ -47,8 +48,18 @@ pub record Shortened (w : World) (g : Given) (t : Tree) (cs : List Call) (rs : L
   pub told : e.rewrites ≡ all_told rs
   pub bounded : (x : Expression) → StoredAs t x → e.rewrites ≤ size x
 
+-- The stores are given back with all that was loaded in them, as it was but for the links that these rewrites changed,
+-- one each, and with what is new behind it. The rest of the lent memory is as it was.
+pub record GivesBack (d : Loaded) (e : Ended) : Type 0 where
+  pub written : Written e.rewrites (held_of (loaded_stores d)) (held_of e.stores)
+  pub holds : Holds (loaded_stores d) (held_of e.stores) e.stores
+  pub new_text : List ℕ
+  pub text_kept : (held_of e.stores).text ≡ (held_of (loaded_stores d)).text ++ new_text
+  pub same_rooms : rooms_of e.stores ≡ rooms_of (loaded_stores d)
+
 -- So it is with the first calls, as many as there is room for answers. The rest of the answers' memory is as it was.
 pub record RunsCalls {H : Type 0} (w : World) (a : H → Answers) (d : Loaded) (support : Support) (calls : List (CallValue H)) (old new : List AnswerValue) (e : Ended) : Type 0 where
   pub shortened : (t : Tree) → DenotesPayoff (held_of (loaded_stores d)) (loaded_root d) t
       → Shortened w (given_by d support) t (map (call_of a) (take (length old) calls)) (map answer_of (take (length calls) new)) e
+  pub given_back : ∥ GivesBack d e ∥₁
   pub others_kept : drop (length calls) new ≡ drop (length calls) old

@@ -1,5 +1,5 @@
 // How a node takes its children.
-ghost use Rattle.std.specs.Prelude.{◌≡◌, true, bytes_eq};
+ghost use Rattle.std.specs.Prelude.{◌≡◌, ◌&&◌, bytes_eq};
 ghost use Rattle.text.specs.Stored.{stored};
 ghost use Rattle.meaning.specs.Methods.{concat_name};
 ghost use Rattle.store.specs.Stores.{held_of};
@@ -33,10 +33,10 @@ pub(crate) fn place_below(stores: &Stores<'_>, node: u32, child: u32) -> Place
     }
 }
 
-// Whether a text of the stores is `concat`.
+// Whether a piece of the text store lies within it and is `concat`.
 fn is_concat(stores: &Stores<'_>, name: TextRun) -> bool
-    ensures { within (held_of stores.now).text name.start name.len ≡ true
-        → result ≡ bytes_eq (text_at (held_of stores.now).text name) (stored concat_name) }
+    ensures { result ≡ within (held_of stores.now).text name.start name.len
+        && bytes_eq (text_at (held_of stores.now).text name) (stored concat_name) }
 {
     let Some(bytes) = stores.text(name) else {
         return false;

@@ -1,5 +1,6 @@
 use Rattle.std.proofs.Common.{◌≡◌, Some, None, sym, ◌∙◌, arith}
 use Rattle.building.proofs.Taking.{sets_out, walked, not_there, refused, stopped, goes_on}
+use Rattle.building.proofs.Faults.{handed_on}
 use Rattle.building.proofs.arrays.append_taken.Goals as goal
 
 pub loop-i-init : goal.loop-i-init
@@ -37,3 +38,6 @@ returns-clause-takes_in c = walked c.loop-i.invariant c.loop-i-test.false
 
 pub returns-clause-grows : goal.returns-clause-grows
 returns-clause-grows c = c.loop-i.invariant.long
+
+pub returns-in_err-take_in-clause-fault : goal.returns-in_err-take_in-clause-fault
+returns-in_err-take_in-clause-fault c = handed_on c.from_residual-in_err-take_in.result c.in_err-take_in.field-0.0 c.from_residual-in_err-take_in.ensures.1 c.in_err-take_in.ensures.fault

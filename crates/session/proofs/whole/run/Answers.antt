@@ -9,7 +9,7 @@ pub loop-i-preserved : goal.loop-i-preserved
 loop-i-preserved g c =
     call_made g.H.Host.answers c.open-session.result c.loop-i.session c.args.calls.now c.args.answers.now c.loop-i.answers c.loop-i.i c.loop-i.invariant
     c.make.new.self c.index-calls-i.result c.make.result (omega (arith, c.loop-i-test.true, c.min-i-end.ensures)) (omega (arith, c.loop-i-test.true, c.min-i-end.ensures, c.loop-i.auto.answers))
-    c.index-calls-i.is c.make.ensures.made c.make.ensures.given
+    c.index-calls-i.is c.make.ensures.made c.make.ensures.wrote c.make.ensures.given
 
 pub returns : goal.returns
 returns g c =

@@ -23,17 +23,17 @@ returns-in_err-ask_for_space-clause-tried g c m is =
 pub invariant_of-self : goal.invariant_of-self
 invariant_of-self g c = absurd (never c.args.self.now.sound (λ p.
     no_fault (g.H.Host.answers c.args.host.now) (rule_of c.args.rule) c.args.self.now p.0 p.1 c.in-Rewritten.plan c.in-Rewritten.ensures c.need.result c.need.ensures
-    (c.in_ok-ask_for_space.ensures p.0 p.1) c.build.new.stores c.in_err-number.field-0.0 c.in_err-number.ensures))
+    (c.in_ok-ask_for_space.ensures p.0 p.1) c.build.new.stores c.in_err-number.field-0.0 c.in_err-number.ensures.builds))
 
 pub returns-in_err-number-clause-tried : goal.returns-in_err-number-clause-tried
 returns-in_err-number-clause-tried g c m is = absurd
     (no_fault (g.H.Host.answers c.args.host.now) (rule_of c.args.rule) c.args.self.now m is c.in-Rewritten.plan c.in-Rewritten.ensures c.need.result c.need.ensures
-    (c.in_ok-ask_for_space.ensures m is) c.build.new.stores c.in_err-number.field-0.0 c.in_err-number.ensures)
+    (c.in_ok-ask_for_space.ensures m is) c.build.new.stores c.in_err-number.field-0.0 c.in_err-number.ensures.builds)
 
 pub returns-in_err-number-clause-appended : goal.returns-in_err-number-clause-appended
 returns-in_err-number-clause-appended g c = absurd (never c.args.self.now.sound (λ p.
     no_fault (g.H.Host.answers c.args.host.now) (rule_of c.args.rule) c.args.self.now p.0 p.1 c.in-Rewritten.plan c.in-Rewritten.ensures c.need.result c.need.ensures
-    (c.in_ok-ask_for_space.ensures p.0 p.1) c.build.new.stores c.in_err-number.field-0.0 c.in_err-number.ensures))
+    (c.in_ok-ask_for_space.ensures p.0 p.1) c.build.new.stores c.in_err-number.field-0.0 c.in_err-number.ensures.builds))
 
 pub overflow_add-self : goal.overflow_add-self
 overflow_add-self g c = omega (arith, lower_from c.args.self.now.sound (c.args.self.now.rewrites + 1) 0x100000000 (λ p. omega (arith, few_rewrites c.args.self.now p.0 p.1)))
@@ -47,7 +47,7 @@ invariant_of-self-2 g c =
       sound = ∥∥₁_map s.sound (λ p.
           let granted = c.in_ok-ask_for_space.ensures p.0 p.1 in
           let b = is_built (g.H.Host.answers c.args.host.now) (rule_of c.args.rule) s p.0 p.1 c.in-Rewritten.plan c.in-Rewritten.ensures c.need.result c.need.ensures granted
-          c.build.new.stores (Ok c.in_ok-number.number) c.in_ok-number.ensures in (
+          c.build.new.stores (Ok c.in_ok-number.number) c.in_ok-number.ensures.builds in (
             _,
             is_after (g.H.Host.answers c.args.host.now) (rule_of c.args.rule) s p.0 p.1 c.in-Rewritten.plan c.in-Rewritten.ensures c.need.result c.need.ensures granted
                 c.build.new.stores c.in_ok-number.number b c.parent-parent.result c.parent-parent.ensures c.hang-self.new.stores c.hang-self.ensures.stores c.hang-self.result c.hang-self.ensures.root,
@@ -59,7 +59,7 @@ returns-clause-tried g c m is =
     let s = c.args.self.now in
     let granted = c.in_ok-ask_for_space.ensures m is in
     let b = is_built (g.H.Host.answers c.args.host.now) (rule_of c.args.rule) s m is c.in-Rewritten.plan c.in-Rewritten.ensures c.need.result c.need.ensures granted
-    c.build.new.stores (Ok c.in_ok-number.number) c.in_ok-number.ensures in (
+    c.build.new.stores (Ok c.in_ok-number.number) c.in_ok-number.ensures.builds in (
       _,
       (_, rewrote (g.H.Host.answers c.args.host.now) (rule_of c.args.rule) s m is c.in-Rewritten.plan c.in-Rewritten.ensures c.need.result c.need.ensures granted c.build.new.stores c.in_ok-number.number b),
       is_after (g.H.Host.answers c.args.host.now) (rule_of c.args.rule) s m is c.in-Rewritten.plan c.in-Rewritten.ensures c.need.result c.need.ensures granted
@@ -74,13 +74,13 @@ returns-clause-appended g c =
       holds = ∥∥₁_map s.sound (λ p.
           let granted = c.in_ok-ask_for_space.ensures p.0 p.1 in
           let b = is_built (g.H.Host.answers c.args.host.now) (rule_of c.args.rule) s p.0 p.1 c.in-Rewritten.plan c.in-Rewritten.ensures c.need.result c.need.ensures granted
-          c.build.new.stores (Ok c.in_ok-number.number) c.in_ok-number.ensures in
+          c.build.new.stores (Ok c.in_ok-number.number) c.in_ok-number.ensures.builds in
           holds_after (g.H.Host.answers c.args.host.now) (rule_of c.args.rule) s p.0 p.1 c.in-Rewritten.plan c.in-Rewritten.ensures c.need.result c.need.ensures granted
           c.build.new.stores c.in_ok-number.number b c.parent-parent.result c.parent-parent.ensures end c.hang-self.ensures.stores);
       same_given = ap (λ r. record { supported = settings_of s.support; rooms = r }) (counts_from s.sound (rooms_of end) (rooms_of s.stores) (λ p.
           let granted = c.in_ok-ask_for_space.ensures p.0 p.1 in
           let b = is_built (g.H.Host.answers c.args.host.now) (rule_of c.args.rule) s p.0 p.1 c.in-Rewritten.plan c.in-Rewritten.ensures c.need.result c.need.ensures granted
-          c.build.new.stores (Ok c.in_ok-number.number) c.in_ok-number.ensures in
+          c.build.new.stores (Ok c.in_ok-number.number) c.in_ok-number.ensures.builds in
           rooms_after (g.H.Host.answers c.args.host.now) (rule_of c.args.rule) s p.0 p.1 c.in-Rewritten.plan c.in-Rewritten.ensures c.need.result c.need.ensures granted
           c.build.new.stores c.in_ok-number.number b c.parent-parent.result c.parent-parent.ensures end c.hang-self.ensures.stores));
       rooted = c.hang-self.ensures.root ∙ ap (λ o. hung_root o s.root c.in_ok-number.number) c.parent-parent.ensures;
