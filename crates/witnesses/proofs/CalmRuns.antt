@@ -20,31 +20,13 @@ calm_kinds = record {
   of_null = λ s. Watched.calmly Returns.returns Still.still;
   of_name = λ s. Watched.calmly (Asks.asks refl) Still.still;
   of_array = λ s. Watched.calmly (Then.goes
-      (Then.goes (Watched.calmly Returns.returns Still.still)
-      (Then.goes
-      (Then.goes
-      (Then.goes
-      (Watched.calmly (Then.goes
-      (Watched.calmly (Then.goes (Then.goes (Watched.calmly Returns.returns Still.still) (Then.goes Returns.returns Returns.returns)) Returns.returns) Still.still)
-      (Asks.asks refl)) Still.still)
-      (Then.goes Returns.returns Returns.returns))
-      Returns.returns)
-      Returns.returns))
+      (Then.goes (Watched.calmly Returns.returns Still.still) (Then.goes (Then.goes (Then.goes (Watched.calmly (Then.goes (Watched.calmly (Then.goes (Then.goes (Watched.calmly Returns.returns Still.still) (Then.goes Returns.returns Returns.returns)) Returns.returns) Still.still) (Asks.asks refl)) Still.still) (Then.goes (Then.goes (Watched.calmly Returns.returns Still.still) (Then.goes Returns.returns Returns.returns)) Returns.returns)) Returns.returns) Returns.returns))
       Returns.returns) Still.still;
   of_static_member = λ s. Watched.calmly (Then.goes (Then.goes (Watched.calmly (Asks.asks refl) Still.still) Returns.returns) (Asks.asks refl)) Still.still;
   of_computed_member = unit_calm;
   of_call = λ s. Watched.calmly (Then.goes
       (Then.goes (Then.goes (Watched.calmly Returns.returns Still.still) Returns.returns) (Then.goes (Asks.asks refl) Returns.returns))
-      (Then.goes
-      (Then.goes (Watched.calmly Returns.returns Still.still)
-      (Then.goes
-      (Then.goes
-      (Watched.calmly (Then.goes
-      (Watched.calmly (Then.goes (Then.goes (Watched.calmly Returns.returns Still.still) (Then.goes Returns.returns Returns.returns)) Returns.returns) Still.still)
-      (Asks.asks refl)) Still.still)
-      (Then.goes Returns.returns Returns.returns))
-      Returns.returns))
-      (Asks.asks refl))) Still.still;
+      (Then.goes (Then.goes (Watched.calmly (Then.goes (Watched.calmly (Then.goes (Then.goes (Watched.calmly Returns.returns Still.still) (Then.goes Returns.returns Returns.returns)) Returns.returns) Still.still) (Asks.asks refl)) Still.still) (Then.goes (Then.goes (Watched.calmly Returns.returns Still.still) (Then.goes Returns.returns Returns.returns)) Returns.returns)) (Asks.asks refl))) Still.still;
   of_template = λ s. Watched.calmly (Then.goes (Then.goes (Watched.calmly Returns.returns Still.still) (Then.goes (Settles.settles refl) Returns.returns)) Returns.returns) Still.still;
   of_unary = λ s. Watched.calmly (Then.goes (Watched.calmly Returns.returns Still.still) (Settles.settles refl)) Still.still;
   of_binary = λ s. Watched.calmly (Then.goes (Watched.calmly Returns.returns Still.still) (Then.goes (Watched.calmly Returns.returns Still.still) (Settles.settles refl))) Still.still;

@@ -114,4 +114,4 @@ try_once {g} {a} {k} {l} s (Tries.refuses x y e i d r) (Tries.refuses z u f j h 
     )
 
 pub one_try : EachTryDoesOneThing
-one_try = record { enters = enter_once; leaves = leave_once; tries = try_once }
+one_try = record { opens = λ o p. (o.whole ∙ sym p.whole, o.at_root ∙ sym p.at_root, o.none_made ∙ sym p.none_made); enters = enter_once; leaves = leave_once; tries = try_once }

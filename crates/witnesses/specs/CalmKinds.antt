@@ -31,17 +31,18 @@ pub record EachKindCanBeCalm : Type 0 where
   pub of_boolean : CalmAs (Expression.boolean 0 true) (Value.primitive (Primitive.boolean true))
   pub of_null : CalmAs (Expression.null 0) (Value.primitive Primitive.null)
   pub of_name : CalmAs (Expression.name 0 (codes "Math")) (Value.object Thing.global)
-  -- ["a", , ...["b"]]
-  pub of_array : CalmAs (Expression.array 0 (Elements.item text_a (Elements.hole 0 (Elements.spread 0 array_b Elements.no_elements))))
-      (Value.array (Slots.value (text_value quiet (codes "a")) (Slots.hole (Slots.value (text_value quiet (codes "b")) Slots.no_slots))))
+  -- ["a", , ...["b"], "a"]
+  pub of_array : CalmAs (Expression.array 0 (Elements.item text_a (Elements.hole 0 (Elements.spread 0 array_b (Elements.item text_a Elements.no_elements)))))
+      (Value.array
+      (Slots.value (text_value quiet (codes "a")) (Slots.hole (Slots.value (text_value quiet (codes "b")) (Slots.value (text_value quiet (codes "a")) Slots.no_slots)))))
   -- Math.pow
   pub of_static_member : CalmAs (Expression.static_member 0 (Expression.name 0 (codes "Math")) (codes "pow")) (Value.object Thing.pow)
   -- "ab"[1]
   pub of_computed_member : CalmAs second_unit (text_value quiet (codes "b"))
-  -- "a".concat("a", ...["b"])
+  -- "a".concat(...["b"], "a")
   pub of_call : CalmAs
-      (Expression.call 0 (Expression.static_member 0 text_a (codes "concat")) (Arguments.argument text_a (Arguments.spread_argument 0 array_b Arguments.no_arguments)))
-      (text_value quiet (codes "aab"))
+      (Expression.call 0 (Expression.static_member 0 text_a (codes "concat")) (Arguments.spread_argument 0 array_b (Arguments.argument text_a Arguments.no_arguments)))
+      (text_value quiet (codes "aba"))
   -- `a${null}b`
   pub of_template : CalmAs
       (Expression.template 0 (Pieces.piece (Quasi.quasi 0 (codes "a") (codes "a")) (Expression.null 0) (Pieces.last (Quasi.quasi 0 (codes "b") (codes "b")))))

@@ -38,7 +38,7 @@ pub fn each_call_has_one_answer()
     ensures { EachCallHasOneAnswer }
 {}
 
-// A move and a try of a rule do one thing.
+// A session is opened in one way, and a move and a try of a rule do one thing.
 pub fn each_try_does_one_thing()
     ensures { EachTryDoesOneThing }
 {}
