@@ -1,5 +1,5 @@
--- The laws, with nothing but their own hypotheses, say something of concrete payoffs. (A law with one hypothesis more, or
--- one that says less, would not give this.)
+-- The laws, with nothing but their own hypotheses, say something of concrete payoffs. (A law with one hypothesis more,
+-- or one that says less, would not give this.)
 use Rattle.std.specs.Prelude.{◌≡◌, ℕ, ◌≤◌, false, true, List, [], ◌∷◌, length, is_some, None, Result, Ok, codes}
 use Rattle.tree.specs.Tree.{at_place}
 use Rattle.meaning.specs.Expression.{Expression, Arguments}
