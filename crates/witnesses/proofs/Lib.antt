@@ -6,3 +6,4 @@ pub mod FirstNo
 pub mod Alike
 pub mod Tried
 pub mod Using
+pub mod Loads

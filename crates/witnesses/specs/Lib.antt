@@ -7,3 +7,4 @@ pub mod Refusals
 pub mod OneAnswer
 pub mod OneTry
 pub mod Applied
+pub mod OneLoad

@@ -5,6 +5,7 @@ ghost use Rattle.witnesses.specs.Told.{RunsTell};
 ghost use Rattle.witnesses.specs.Truths.{EachAnswerCanBeTrue};
 ghost use Rattle.witnesses.specs.Refusals.{TheFirstNoIsNamed};
 ghost use Rattle.witnesses.specs.OneAnswer.{EachCallHasOneAnswer};
+ghost use Rattle.witnesses.specs.OneLoad.{RefusedLoadsAreOne};
 ghost use Rattle.witnesses.specs.OneTry.{EachTryDoesOneThing};
 ghost use Rattle.witnesses.specs.Applied.{TheLawsApply};
 
@@ -46,4 +47,9 @@ pub fn each_try_does_one_thing()
 // The laws of rules and of sessions, applied to payoffs.
 pub fn the_laws_apply()
     ensures { TheLawsApply }
+{}
+
+// A refused load names one fault, and leaves one thing in the stores.
+pub fn refused_loads_are_one()
+    ensures { RefusedLoadsAreOne }
 {}

@@ -7,6 +7,6 @@ mod laws;
 
 pub use laws::{
     each_answer_can_be_true, each_call_has_one_answer, each_kind_can_be_calm,
-    each_try_does_one_thing, runs_tell, the_first_no_is_named, the_laws_apply,
-    the_premises_ask_no_more,
+    each_try_does_one_thing, refused_loads_are_one, runs_tell, the_first_no_is_named,
+    the_laws_apply, the_premises_ask_no_more,
 };
