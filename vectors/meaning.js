@@ -4,7 +4,8 @@
 // JavaScript engine gave for each. That the definitions give the same is the law `the_engine_agrees` of that crate. The
 // cases by chance come from a fixed start, so that every run writes the same file.
 // It also asks the engine in which order the parts of an expression run, and fails where that is another order than the
-// one of the runs in `OrderShows` of crates/meaning/specs/Laws.antt.
+// one of the runs in `OrderShows` of crates/meaning/specs/Laws.antt; and what objects, functions and BigInts are asked,
+// where it fails at another answer than the one of the runs in `RunsTell` of crates/witnesses/specs/Told.antt.
 'use strict';
 const assert = require('assert');
 const fs = require('fs');
@@ -416,6 +417,50 @@ const ORDERS = [
 ];
 for (const [source, order] of ORDERS) assert.strictEqual(seen(source), order, `${source} runs as ${seen(source)}`);
 
+// ---- What is asked ----
+
+// What a program gives whose objects say by which hint they are asked, and whose function gives its receiver: the runs
+// of `RunsTell` in crates/witnesses/specs/Told.antt. `concat` of an array spreads x as a hole and a text.
+function told(source) {
+  const f = new Function('"use strict"; return this;');
+  const object = (name) => ({
+    f,
+    [Symbol.toPrimitive]: (hint) => (hint === 'string' ? `t${name}` : 0x6e),
+    [Symbol.isConcatSpreadable]: true,
+    length: 2,
+    1: name,
+  });
+  const [x, y] = [object('x'), object('y')];
+  return [new Function('f', 'x', 'y', `"use strict"; return ${source};`)(f, x, y), x];
+}
+
+const TOLD = [
+  // `no_receiver`, `object_as_receiver` and `object_of_a_key`
+  ['f()', () => undefined],
+  ['x.f()', (x) => x],
+  ['x["f"]()', (x) => x],
+  // `template_asks_for_text`, `concat_asks_for_text`, `plus_asks_for_number` and `pow_is_power`
+  ['`${x}`', () => 'tx'],
+  ['String.prototype.concat.call(x, y)', () => 'txty'],
+  ['+x', () => 0x6e],
+  ['-x', () => -0x6e],
+  ['Math.pow(x, y)', () => 0x6e ** 0x6e],
+  // `power`, `difference` and `quotient`
+  ['x ** y', () => 0x6e ** 0x6e],
+  ['x - y', () => 0],
+  ['x / y', () => 1],
+  // `big_difference`, `big_negative` and `big_text`
+  ['3n - 4n', () => -1n],
+  ['-(3n)', () => -3n],
+  ['`${3n}`', () => '3'],
+  // `object_is_spread`
+  ['[].concat(x)', () => [, 'x']],
+];
+for (const [source, wanted] of TOLD) {
+  const [given, x] = told(source);
+  assert.deepStrictEqual(given, wanted(x), `${source} gives ${String(given)}`);
+}
+
 // ---- The file ----
 
 // A line of at most 118 columns, or several, cut before a bracket. All lines here are laid out as the formatter does.
@@ -481,3 +526,4 @@ const text = [HEAD.trimEnd(), ...definitions.filter((d) => !inWorld(d)).flatMap(
 fs.writeFileSync(path.join(__dirname, '..', 'crates', 'meaning', 'specs', 'Engine.antt'), text.join('\n') + '\n');
 for (const { name, inputs } of definitions) console.log(`${inputs.length} ${name}`);
 console.log(`${ORDERS.length} orders`);
+console.log(`${TOLD.length} answers that tell what was asked`);

@@ -1,0 +1,10 @@
+pub mod LooseWorld
+pub mod CalmKinds
+pub mod TellingWorld
+pub mod Told
+pub mod Truths
+pub mod Refusals
+pub mod OneAnswer
+pub mod OneTry
+pub mod Applied
+pub mod OneLoad
