@@ -1,0 +1,2 @@
+pub mod NumberedWorld
+pub mod Lending
