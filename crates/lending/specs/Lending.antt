@@ -36,6 +36,7 @@ use Rattle.session.specs.Trying.{Written}
 use Rattle.lending.specs.declared.known.Known.{Known}
 use Rattle.lending.specs.declared.known.Known.TheVariants.{Bound, Rows}
 use Rattle.lending.specs.declared.shortening.Shortened.{Shortened}
+use Rattle.lending.specs.declared.checking.Checked.{Checked}
 use Rattle.lending.specs.NumberedWorld.{NumberedWorld, world_of}
 
 -- ---- the memory
@@ -123,25 +124,36 @@ pub record SweepsLoaded (a : Answers) (d : Loaded) (support : Support) (e : Ende
 
 -- So it is with what is loaded of a file, in stores with so much room: there is as much still. Or the first question that is
 -- answered no is named.
-abbrev pub SweepsFile : (rooms : Counts) → List ℕ → Known → Support → Result (Ended × Result Swept SweepRefused) Fault → Type 0
-SweepsFile rooms file known support (Ok p) =
+abbrev pub SweepsFile : (rooms : Counts) → List ℕ → (ℕ → Answers) → Support → Result (Ended × Result Swept SweepRefused) Fault → Type 0
+SweepsFile rooms file answers support (Ok p) =
     (loaded : Held) × LawfulFile file loaded × Fits file rooms × (rooms_of p.0.stores ≡ rooms)
     × ∥ Written (rewrites_of p.1) loaded (held_of p.0.stores) ∥₁
     × (t : Tree) × DenotesPayoff loaded (root file) t
-    × Left (answers_by known (length loaded.nodes)) (given_in rooms support) t (held_of p.0.stores) (record { root = p.0.root; counts = p.0.counts; swept = p.1 })
-SweepsFile rooms file known support (Err e) = Refuses (load_questions file rooms) e
+    × Left (answers (length loaded.nodes)) (given_in rooms support) t (held_of p.0.stores) (record { root = p.0.root; counts = p.0.counts; swept = p.1 })
+SweepsFile rooms file answers support (Err e) = Refuses (load_questions file rooms) e
 
 -- ---- the whole
 
--- The file is lawful and fits, its tree was shortened, and what is left stands in the memory. Or the first question that is
--- answered no is named, and the memory is as it was.
-abbrev pub ShortensIn : (rooms : Counts) → List ℕ → Known → Support → (old : Lent) → Result Shortened Fault → (new : Lent) → Type 0
-ShortensIn rooms file known support old (Ok s) new =
+-- The file is lawful and fits, its tree was shortened by a host with these answers, where so many nodes were loaded, and what is
+-- left stands in the memory. Or the first question that is answered no is named, and the memory is as it was.
+abbrev pub ShortensIn : (rooms : Counts) → List ℕ → (ℕ → Answers) → Support → (old : Lent) → Result Shortened Fault → (new : Lent) → Type 0
+ShortensIn rooms file answers support old (Ok s) new =
     (loaded : Held) × (left : Held) × LawfulFile file loaded × Fits file rooms × Has old left new
     × ∥ Written (rewrites_of s.swept) loaded left ∥₁
-    × (t : Tree) × DenotesPayoff loaded (root file) t × Left (answers_by known (length loaded.nodes)) (given_in rooms support) t left s
-ShortensIn rooms file known support old (Err e) new = Refuses (load_questions file rooms) e × (new ≡ old)
+    × (t : Tree) × DenotesPayoff loaded (root file) t × Left (answers (length loaded.nodes)) (given_in rooms support) t left s
+ShortensIn rooms file answers support old (Err e) new = Refuses (load_questions file rooms) e × (new ≡ old)
 
 -- In as much of the memory as a payoff may need.
-abbrev pub Shortens : List ℕ → Known → Support → (old : Lent) → Result Shortened Fault → (new : Lent) → Type 0
-Shortens file known support old = ShortensIn (rooms_up_to limits old) file known support old
+abbrev pub Shortens : List ℕ → (ℕ → Answers) → Support → (old : Lent) → Result Shortened Fault → (new : Lent) → Type 0
+Shortens file answers support old = ShortensIn (rooms_up_to limits old) file answers support old
+
+-- ---- a file alone
+
+-- The file is lawful, and how much it holds; or the first question that is answered no, where there is as much room as a payoff
+-- may need.
+abbrev pub ChecksIn : (rooms : Counts) → List ℕ → Result Checked Fault → Type 0
+ChecksIn rooms file (Ok c) = (h : Held) × LawfulFile file h × (c.root ≡ root file) × (c.counts ≡ counts h)
+ChecksIn rooms file (Err e) = Refuses (load_questions file rooms) e
+
+abbrev pub Checks : List ℕ → Result Checked Fault → Type 0
+Checks = ChecksIn limits

@@ -2,11 +2,13 @@
 
 #![tactic(auto)]
 
+mod checking;
 mod known;
 mod record;
 mod shortening;
 mod sweeping;
 
+pub use checking::{Checked, check};
 pub use known::Known;
 pub use record::RECORD;
 pub use shortening::{Shortened, shorten};

@@ -1,7 +1,7 @@
 // Shortening a payoff in memory that the caller lends.
 ghost use Rattle.std.specs.Prelude.{◌≤◌};
 ghost use Rattle.store.specs.Stores.{held_of};
-ghost use Rattle.lending.specs.Lending.{Shortens, ShortensIn, RoomFor, Has, rooms_up_to, counts_up_to, lent};
+ghost use Rattle.lending.specs.Lending.{Shortens, ShortensIn, answers_by, RoomFor, Has, rooms_up_to, counts_up_to, lent};
 
 use super::known::Known;
 use super::record::{RECORD, write_records};
@@ -14,11 +14,11 @@ use store::{Counts, Store, Stores};
 use tree::Node;
 
 // Where no more is lent, a smaller piece of the stack is enough.
-const FEW_NODES: usize = 256;
+pub(crate) const FEW_NODES: usize = 256;
 
-const FEW_ENTRIES: usize = 1024;
+pub(crate) const FEW_ENTRIES: usize = 1024;
 
-const LITTLE_TEXT: usize = 4096;
+pub(crate) const LITTLE_TEXT: usize = 4096;
 
 // What is left of a payoff: its root's number, how much the memory holds, and what the sweep answered.
 #[derive(Clone, Copy, Debug, PartialEq, Eq)]
@@ -38,7 +38,7 @@ pub fn shorten(
     entries: &mut [u32],
     text: &mut [u8],
 ) -> Result<Shortened, Fault>
-    ensures { Shortens file.now known.entry support (lent records.old entries.old text.old) result (lent records.new entries.new text.new) }
+    ensures { Shortens file.now (answers_by known.entry) support (lent records.old entries.old text.old) result (lent records.new entries.new text.new) }
 {
     let few_nodes = records.len() / RECORD <= FEW_NODES;
     if few_nodes && entries.len() <= FEW_ENTRIES && text.len() <= LITTLE_TEXT {
@@ -62,7 +62,7 @@ fn shorten_on_stack<const N: usize, const E: usize, const T: usize>(
     text: &mut [u8],
 ) -> Result<Shortened, Fault>
     requires { (N ≤ 4096) × (E ≤ 16384) × (T ≤ 65536) }
-    ensures { ShortensIn (rooms_up_to (counts_up_to N E T) (lent records.old entries.old text.old)) file.now known.entry support (lent records.old entries.old text.old) result (lent records.new entries.new text.new) }
+    ensures { ShortensIn (rooms_up_to (counts_up_to N E T) (lent records.old entries.old text.old)) file.now (answers_by known.entry) support (lent records.old entries.old text.old) result (lent records.new entries.new text.new) }
 {
     let mut node_memory = [Node::Null; N];
     let mut entry_memory = [0; E];

@@ -18,7 +18,7 @@ pub(crate) fn load_and_sweep<'a>(
     support: Support,
     stores: Stores<'a>,
 ) -> Result<(Ended<'a>, Result<Swept, SweepRefused>), Fault>
-    ensures { SweepsFile (rooms_of stores.entry) file.now known.entry support result }
+    ensures { SweepsFile (rooms_of stores.entry) file.now (answers_by known.entry) support result }
 {
     match load(file, stores) {
         Ok(loaded) => Ok(sweep_by(loaded, known, support)),
