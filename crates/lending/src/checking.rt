@@ -30,7 +30,9 @@ pub fn check(file: &[u8]) -> Result<Checked, Fault>
 }
 
 // Does so with room for N nodes, E entries and T bytes.
-fn check_on_stack<const N: usize, const E: usize, const T: usize>(file: &[u8]) -> Result<Checked, Fault>
+fn check_on_stack<const N: usize, const E: usize, const T: usize>(
+    file: &[u8],
+) -> Result<Checked, Fault>
     requires { (N ≤ 4096) × (E ≤ 16384) × (T ≤ 65536) }
     ensures { ChecksIn (counts_up_to N E T) file.now result }
 {
