@@ -280,7 +280,7 @@ for (const size of [1000, 4096]) {
 for (const bytes of [240, 2400, 24000, 64800]) {
   for (const [shape, tree] of Object.entries(TEXTS)) writeSet(`${shape}-${bytes}`, [packed(tree(bytes))]);
 }
-for (const [nodes, bytes] of [[10, 160], [100, 1600], [1000, 16000], [4096, 65536]]) {
+for (const [nodes, bytes] of [[10, 20], [100, 200], [1000, 2000], [4096, 8192]]) {
   for (const [shape, x] of [['shared-text', 'a'], ['shared-wide-text', 'é']]) {
     const file = sharedText(nodes, bytes, x);
     const report = [0, 0, 0, 0, 1, 0, nodes - 1, nodes, nodes - 1, bytes];

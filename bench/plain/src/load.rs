@@ -171,7 +171,7 @@ impl<'a> Sections<'a> {
     /// Whether the node x may have such a child.
     #[inline]
     fn may_link(&self, x: usize, child: u32, barred: Kinds) -> bool {
-        (child as usize) < x && !barred.contains(self.records[child as usize].kind())
+        self.records[..x].get(child as usize).is_some_and(|record| !barred.contains(record.kind()))
     }
 
     /// Whether the root is the last node, and an expression.

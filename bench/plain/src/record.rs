@@ -98,8 +98,8 @@ impl Fields for [u8; BYTES] {
 
     #[inline]
     fn word(&self, k: usize) -> u32 {
-        let at = 4 + 4 * k;
-        u32::from_le_bytes([self[at], self[at + 1], self[at + 2], self[at + 3]])
+        let (words, _) = self[4..].as_chunks();
+        u32::from_le_bytes(words[k])
     }
 
     #[inline]
