@@ -260,6 +260,14 @@ function sharedText(nodes, bytes, x) {
   return file;
 }
 
+// One long list that all nodes share: a file that is refused, at node 0, which is a child of its own.
+function sharedList(nodes, entries) {
+  const file = parts(nested(nodes - 1, (x) => array([x]), array([])));
+  file.entries = times(entries, () => 0);
+  file.nodes.forEach((n) => { n.words = [0, entries, 0, 0]; });
+  return file;
+}
+
 // ---- All sets ----
 
 fs.mkdirSync(FOLDER, { recursive: true });
@@ -286,4 +294,7 @@ for (const [nodes, bytes] of [[10, 20], [100, 200], [1000, 2000], [4096, 8192]])
     const report = [0, 0, 0, 0, 1, 0, nodes - 1, nodes, nodes - 1, bytes];
     writeSet(`${shape}-${nodes}`, [{ file: bytesOf(file), rooms: LIMITS, report, nodes, held: [] }]);
   }
+  const { fault, node } = judged(bytesOf(sharedList(nodes, nodes >> 2)));
+  const report = [fault, 2, node, ...times(7, () => 0)];
+  writeSet(`shared-list-${nodes}`, [{ file: bytesOf(sharedList(nodes, nodes >> 2)), rooms: LIMITS, report, nodes, held: [] }]);
 }
