@@ -32,7 +32,11 @@ for (const { instructions, time } of sets.values()) {
   }
 }
 
-const ratio = (of, what) => of[`library ${what}`] / of[`plain ${what}`];
+// What a sweep takes of a small part is lost in the noise of times; then there is no ratio.
+const ratio = (of, what) => {
+  const [library, plain] = ['library', 'plain'].map((who) => of[`${who} ${what}`]);
+  return library > 0 && plain > of['plain both'] / 50 ? library / plain : NaN;
+};
 const shown = (x, digits = 2) => (Number.isFinite(x) ? x.toFixed(digits) : '-');
 const isText = (name) => name.startsWith('text-');
 const row = (cells, widths) => cells.map((cell, i) => (i === 0 ? String(cell).padEnd(widths[i]) : String(cell).padStart(widths[i]))).join('  ');
@@ -82,18 +86,19 @@ for (const what of ['load', 'sweep', 'both']) {
   if (what === 'both') holds = holds && fine;
   console.log(`${fine ? 'yes' : 'NO '}  ${what}: the library takes ${shown(found)} times the instructions of plain Rust, ${shown(ratio(all.time, what))} times the time`);
 }
-const above = inOrder.filter((name) => ratio(sets.get(name).instructions, 'both') > MOST);
-console.log(`${above.length} of ${inOrder.length} sets are above ${MOST} times: ${above.join(' ') || 'none'}`);
+const counted = inOrder.filter((name) => Number.isFinite(ratio(sets.get(name).instructions, 'both')));
+const above = counted.filter((name) => ratio(sets.get(name).instructions, 'both') > MOST);
+console.log(`${above.length} of ${counted.length} sets are above ${MOST} times: ${[...new Set(above.map(familyOf))].join(', ') || 'none'}`);
 
 // A family is linear where no size takes more for a node (for a byte, of texts) than the second size does.
 for (const who of ['library', 'plain']) {
   const bent = [];
-  for (const family of new Set(inOrder.filter((name) => name !== 'payoffs').map(familyOf))) {
-    const members = inOrder.filter((name) => familyOf(name) === family);
+  for (const family of new Set(counted.filter((name) => name !== 'payoffs').map(familyOf))) {
+    const members = counted.filter((name) => familyOf(name) === family);
     for (const what of ['load', 'both']) {
       const costs = members.map((name) => sets.get(name).instructions[`${who} ${what}`] / (isText(name) ? sets.get(name).bytes : sets.get(name).nodes));
       const [first, last] = [costs[Math.min(1, costs.length - 2)], costs[costs.length - 1]];
-      if (last > GROWTH * first) bent.push(`${family} ${what} (${costs.map((cost) => shown(cost, 1)).join(' ')})`);
+      if (!(last <= GROWTH * first)) bent.push(`${family} ${what} (${costs.map((cost) => shown(cost, 1)).join(' ')})`);
     }
   }
   if (who === 'library') holds = holds && bent.length === 0;
