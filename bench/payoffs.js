@@ -1,10 +1,10 @@
 // Makes the payoffs that are measured: node bench/payoffs.js
 //
-// Writes sets of payoffs into bench/out, each a file NAME.set. All comes from a fixed start, so that every run writes the
-// same files. A set is the number of its payoffs, and then for each payoff, in words of four bytes, lowest byte first: how
-// long its file is, its options, how many rows its table has (or 2^32 - 1 where it is shortened by what its nodes say of
-// themselves), the rooms for nodes, entries and bytes of text; then the ten words of the report that vectors/session.js
-// gives of it; and then the file, and the rows.
+// Writes sets of payoffs into bench/out, each a file NAME.set. All comes from a fixed start, so that every run writes
+// the same files. A set is the number of its payoffs, and then for each payoff, in words of four bytes, lowest byte
+// first: how long its file is, its options, how many rows its table has (or 2^32 - 1 where it is shortened by what its
+// nodes say of themselves), the rooms for nodes, entries and bytes of text; then the ten words of the report that
+// vectors/session.js gives of it; and then the file, and the rows.
 'use strict';
 const fs = require('fs');
 const path = require('path');
@@ -156,7 +156,8 @@ function accepted(count, one, options) {
   return payoffs;
 }
 
-// Where there is no space for a new node: the same parts, but of what is rewritten only what an array literal is read at.
+// Where there is no space for a new node: such parts, but of what is rewritten only readings of array literals, and calls
+// that give their array back.
 const PLAIN = [
   () => at(array(times(2 + below(3), amount)), number(below(2))),
   () => concat(array(times(1 + below(3), amount)), []),
@@ -229,8 +230,8 @@ function manyRounds(size) {
   return best;
 }
 
-// By a table that says that nothing has effects, each reading of an array in a round of its own: as many rounds as there
-// are readings, and a tree of as many nodes beside it, which is visited in each round.
+// By a table that says that nothing has effects, each reading of an array in a round of its own: as many rounds as
+// there are readings, and a tree of as many nodes beside it, which is visited in each round.
 function manyRoundsByTable(size) {
   const readings = Math.floor((size - 260) / 6);
   const spine = nested(255, (x) => unary('minus', x), nested(readings, (x) => at(array([x]), number(0)), number(1)));

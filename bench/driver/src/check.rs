@@ -111,7 +111,8 @@ fn spills(lent: &Lent, report: &Report) -> bool {
 /// Rooms with a little more than the file has.
 fn tight(payoff: &Payoff, i: usize) -> [usize; 3] {
     let count = |at: usize| u32::from_le_bytes(payoff.file[at..at + 4].try_into().unwrap()) as usize;
-    let more = [[i % 17, 999, 9999], [999, i % 29, 9999], [999, 999, i % 53], [i % 40, i % 50, i % 60], [0, 0, 0]][i % 5];
+    let more =
+        [[i % 17, 999, 9999], [999, i % 29, 9999], [999, 999, i % 53], [i % 40, i % 50, i % 60], [0, 0, 0]][i % 5];
     let few = [count(8) + more[0], count(16) + more[1], count(24) + more[2]];
     if i % 11 == 10 {
         return [count(8), count(16), count(24).saturating_sub(1)];

@@ -4,12 +4,8 @@ use crate::set::Set;
 use crate::side::{self, Lent, Side, What};
 use std::time::{Duration, Instant};
 
-const CALLS: [(Side, What); 4] = [
-    (Side::Library, What::Load),
-    (Side::Library, What::Both),
-    (Side::Plain, What::Load),
-    (Side::Plain, What::Both),
-];
+const CALLS: [(Side, What); 4] =
+    [(Side::Library, What::Load), (Side::Library, What::Both), (Side::Plain, What::Load), (Side::Plain, What::Both)];
 
 /// Prints a line `time SET WHO WHAT NANOSECONDS` for each set and each thing that is timed.
 pub fn time(passes: usize, sets: &[&str]) {
@@ -24,7 +20,13 @@ pub fn time(passes: usize, sets: &[&str]) {
             keep_best(&mut best[CALLS.len()], || side::copy_pass(&set, &mut lent));
         }
         for (best, (who, what)) in best.iter().zip(CALLS) {
-            println!("time {} {} {} {}", set.name, format!("{who:?}").to_lowercase(), format!("{what:?}").to_lowercase(), best.as_nanos());
+            println!(
+                "time {} {} {} {}",
+                set.name,
+                format!("{who:?}").to_lowercase(),
+                format!("{what:?}").to_lowercase(),
+                best.as_nanos()
+            );
         }
         println!("time {} copy file {}", set.name, best[CALLS.len()].as_nanos());
         println!("size {} {} {} {}", set.name, set.payoffs.len(), set.nodes(), set.bytes());

@@ -1,5 +1,6 @@
-//! Payoffs loaded and shortened by the rules of docs/FORMAT.md, docs/RULES.md and docs/SESSIONS.md, in plain Rust and for
-//! speed: what the proved library is measured against. The calls have no heap: all stands in memory that the caller lends.
+//! Payoffs loaded and shortened by the rules of docs/FORMAT.md, docs/RULES.md and docs/SESSIONS.md, in plain Rust and
+//! for speed: what the proved library is measured against. The calls have no heap: all stands in memory that the
+//! caller lends.
 
 mod fault;
 mod host;

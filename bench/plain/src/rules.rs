@@ -257,9 +257,7 @@ impl<H: Host> Rules<'_, '_, H> {
 
     fn is_global_name(&self, node: u32, name: &[u8]) -> bool {
         let record = self.payoff.record(node);
-        record.kind() == NAME
-            && self.payoff.text(record.run(0)) == name
-            && self.host.is_global(self.payoff, node)
+        record.kind() == NAME && self.payoff.text(record.run(0)) == name && self.host.is_global(self.payoff, node)
     }
 
     // ---- property ----

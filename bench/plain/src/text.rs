@@ -172,7 +172,8 @@ pub fn cooks_to(raw: &[u8], cooked: &[u8]) -> bool {
     }
 }
 
-/// What is left to compare, and a leading surrogate that came last, since a trailing one would make one character with it.
+/// What is left to compare, and a leading surrogate that came last, since a trailing one would make one character with
+/// it.
 struct Cooking<'a> {
     cooked: &'a [u8],
     leading: Option<u32>,
