@@ -156,8 +156,8 @@ function accepted(count, one, options) {
   return payoffs;
 }
 
-// Where there is no space for a new node: such parts, but of what is rewritten only readings of array literals, and calls
-// that give their array back.
+// Where there is no space for a new node: such parts, but of what is rewritten only readings of array literals, and
+// calls that give their array back.
 const PLAIN = [
   () => at(array(times(2 + below(3), amount)), number(below(2))),
   () => concat(array(times(1 + below(3), amount)), []),
