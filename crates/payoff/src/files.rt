@@ -1,6 +1,8 @@
 // Payoffs in files.
 use super::options::Options;
 use super::packet::packet_len;
+use super::progress::Progress;
+use super::records::{Fate, Record, table};
 use super::sweeping::sweep;
 use anyhow::{anyhow, bail, ensure};
 use base::Fault;
@@ -9,6 +11,7 @@ use file::{Loaded, load};
 use script::Answer as Reply;
 use session::{Answer, Ended};
 use std::rt::Files;
+use std::time::Clock;
 use std::{fs, io};
 use store::Counts;
 
@@ -82,16 +85,54 @@ pub fn show_all(
     for_all(rt, paths, |path| show(rt, path))
 }
 
-// Prints what is left of the payoff of each file, and says of each other one why there is none.
+// Prints what is left of the payoff of each file, and says of each other one why there is none. The table of all of them
+// is written where one is asked for. Progress is shown where somebody watches.
 pub fn shorten_all(
-    rt: &(impl Files + Print + Eprint + AllocGlobal),
+    rt: &(impl Files + Clock + Print + Eprint + AllocGlobal),
     options: &Options,
+    watched: bool,
 ) -> anyhow::Result<()> {
-    for_all(
-        rt,
-        options.paths.as_slice(),
-        |path| shorten(rt, options, path),
-    )
+    let mut progress = Progress::new(rt, watched);
+    let mut records = Vec::new(rt.alloc());
+    let mut bad = 0usize;
+    for path in options.paths.as_slice() {
+        let mut fate = Fate::Unread;
+        let done = shorten(rt, options, path.as_str(), &mut progress, &mut fate);
+        if let Err(error) = done {
+            progress.erase(rt);
+            eprintln!(rt; "{path}: {error}")?;
+            bad = bad.saturating_add(1);
+        }
+        records.push(Record {
+            file: path.as_str(),
+            fate,
+        })?;
+        progress.show(rt, records.len(), options.paths.len());
+    }
+    progress.erase(rt);
+    let done = none_bad(bad, options.paths.len());
+    match &options.csv {
+        Some(path) => with_table(rt, path.as_str(), records.as_slice(), done),
+        None => done,
+    }
+}
+
+// Writes the table, whatever was done. If it cannot be written, that is what the program ends with.
+fn with_table(
+    rt: &(impl Files + Eprint + AllocGlobal),
+    path: &str,
+    records: &[Record<'_>],
+    done: anyhow::Result<()>,
+) -> anyhow::Result<()> {
+    let text = table(rt.alloc(), records)?;
+    match (done, fs::write(rt, path, text.as_slice())) {
+        (done, Ok(())) => done,
+        (Ok(()), Err(error)) => bail!("{path}: {error}"),
+        (Err(bad), Err(error)) => {
+            eprintln!(rt; "payoff: {bad}")?;
+            bail!("{path}: {error}")
+        }
+    }
 }
 
 // Does with each file what `treat` does, and says of each other one why it cannot.
@@ -107,7 +148,12 @@ where
             bad = bad.saturating_add(1);
         }
     }
-    ensure!(bad == 0, "refused {bad} of {} files", paths.len());
+    none_bad(bad, paths.len())
+}
+
+// Whether none of so many files was bad.
+fn none_bad(bad: usize, files: usize) -> anyhow::Result<()> {
+    ensure!(bad == 0, "refused {bad} of {files} files");
     Ok(())
 }
 
@@ -124,10 +170,13 @@ fn print_tree(rt: &impl Print, path: &str, loaded: &Loaded<'_>) -> io::Result<()
     println!(rt; "{path}: {}", Shown::new(loaded))
 }
 
+// What became of the file is written to `fate`, which holds `Unread` before.
 fn shorten(
-    rt: &(impl Files + Print + AllocGlobal),
+    rt: &(impl Files + Print + Eprint + AllocGlobal),
     options: &Options,
     path: &str,
+    progress: &mut Progress,
+    fate: &mut Fate,
 ) -> anyhow::Result<()> {
     let heap = rt.alloc();
     let file = fs::read(rt, path)?;
@@ -139,9 +188,18 @@ fn shorten(
             let host = options.host.host(names.as_slice(), nodes);
             let mut answers = UNANSWERED;
             let ended = sweep(loaded, options.support, &host, &mut answers);
+            let len = packet_len(&ended.stores, ended.root);
+            *fate = Fate::of_sweep(file.len(), len, answers[0]);
+            progress.erase(rt);
             Ok(print_end(rt, path, &ended, answers[0])?)
         }
-        Err(refused) => Err(refusal(refused.fault)),
+        Err(refused) => {
+            *fate = Fate::Refused {
+                before: file.len(),
+                fault: refused.fault,
+            };
+            Err(refusal(refused.fault))
+        }
     }
 }
 

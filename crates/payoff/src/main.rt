@@ -8,13 +8,17 @@ mod label;
 mod options;
 mod packet;
 mod plain_world;
+mod progress;
+mod records;
 mod sweeping;
 
 use anyhow::bail;
 use options::Options;
 use std::env;
+use std::io::IsTerminal;
 use std::process::ExitCode;
 use std::rt::{Env, Files};
+use std::time::Clock;
 
 const HELP: &str =
     "payoff              shorten the payoff of a quote, from the file quote.payoff of this folder, and print it before and after
@@ -27,6 +31,7 @@ payoff shorten [OPTION..] FILE..
                                              structural=NAME,NAME with bound names, or table=PATH
                         --no-templates       the engine knows no template literals
                         --no-power           the engine does not know the operator **
+                        --csv PATH           also write what became of each file to PATH, as a table
 payoff script       answer the requests on standard input, one to a line:
                         escape HEX [ROOM]    the raw template text of a text
                         cook HEX [ROOM]      the text that raw template text cooks to
@@ -76,7 +81,7 @@ impl Command {
 }
 
 fn main(rt: HostRuntime) -> ExitCode {
-    match run(&rt) {
+    match run(&rt, rt.stderr().is_terminal()) {
         Ok(()) => ExitCode::SUCCESS,
         Err(error) => {
             let _ = eprintln!(rt; "payoff: {error}");
@@ -85,12 +90,16 @@ fn main(rt: HostRuntime) -> ExitCode {
     }
 }
 
-fn run(rt: &(impl Env + Files + Input + Print + Eprint + AllocGlobal)) -> anyhow::Result<()> {
+// Does what the arguments ask for. Somebody watches where standard error is a terminal.
+fn run(
+    rt: &(impl Env + Files + Clock + Input + Print + Eprint + AllocGlobal),
+    watched: bool,
+) -> anyhow::Result<()> {
     match Command::parse(rt, env::args(rt)?)? {
         Command::Quote => files::treat_quote(rt)?,
         Command::Label => label::show(rt)?,
         Command::Show(paths) => files::show_all(rt, paths.as_slice())?,
-        Command::Shorten(options) => files::shorten_all(rt, &options)?,
+        Command::Shorten(options) => files::shorten_all(rt, &options, watched)?,
         Command::Script => cases::serve(rt)?,
         Command::Help => println!(rt; "{HELP}")?,
     }

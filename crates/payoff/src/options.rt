@@ -1,5 +1,5 @@
 // What `payoff shorten` is asked for.
-use anyhow::{bail, ensure};
+use anyhow::{anyhow, bail, ensure};
 use cases::HostWord;
 use deciding::Support;
 use std::alloc::Global;
@@ -12,6 +12,8 @@ pub struct Options {
     pub host: HostWord,
     pub support: Support,
     pub paths: Vec<String>,
+    // Where a table of what became of the files is written.
+    pub csv: Option<String>,
 }
 
 impl Options {
@@ -24,6 +26,7 @@ impl Options {
                 power: true,
             },
             paths: Vec::new(heap),
+            csv: None,
         }
     }
 
@@ -46,10 +49,11 @@ impl Options {
                     options.host = host_of(rt, host)?;
                     more
                 }
-                ("--host", _) => bail!("--host which? See payoff help"),
-                (other, _) if other.starts_with("--") => {
-                    bail!("no option `{other}`: see payoff help")
+                ("--csv", [path, more @ ..]) => {
+                    options.csv = Some(String::from_str(heap, path)?);
+                    more
                 }
+                (other, _) if other.starts_with("--") => return Err(refusal(other)),
                 (path, _) => {
                     options.paths.push(String::from_str(heap, path)?)?;
                     more
@@ -61,6 +65,15 @@ impl Options {
             "shorten which files? See payoff help"
         );
         Ok(options)
+    }
+}
+
+// Why a word with two dashes is no option as it stands.
+fn refusal(word: &str) -> anyhow::Error {
+    match word {
+        "--host" => anyhow!("--host which? See payoff help"),
+        "--csv" => anyhow!("--csv where? See payoff help"),
+        other => anyhow!("no option `{other}`: see payoff help"),
     }
 }
 
