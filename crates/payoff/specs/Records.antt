@@ -17,15 +17,23 @@ text_of Empty = []
 text_of (Number n) = decimal n
 text_of UnreadCell = codes "unread"
 
--- What a row says behind the name of the file.
-abbrev pub cells_of : Fate → List (List ℕ)
-cells_of Unread = [] ∷ [] ∷ [] ∷ [] ∷ [] ∷ codes "unread" ∷ []
-cells_of (Refused before fault) = decimal before ∷ [] ∷ [] ∷ [] ∷ [] ∷ decimal (number fault) ∷ []
-cells_of (Stopped before after s) = decimal before ∷ decimal after ∷ decimal s.rewrites ∷ [] ∷ [] ∷ decimal (number s.fault) ∷ []
-cells_of (Swept before after s) = decimal before ∷ decimal after ∷ decimal s.rewrites ∷ decimal s.rounds ∷ decimal (cond s.left 1 0) ∷ decimal 0 ∷ []
+-- What a row tells of a fate: lengths before and after, rewrites, rounds, and whether places were left; and the fault.
+abbrev pub counts_of : Fate → List (List ℕ)
+counts_of Unread = [] ∷ [] ∷ [] ∷ [] ∷ [] ∷ []
+counts_of (Refused before fault) = decimal before ∷ [] ∷ [] ∷ [] ∷ [] ∷ []
+counts_of (Stopped before after s) = decimal before ∷ decimal after ∷ decimal s.rewrites ∷ [] ∷ [] ∷ []
+counts_of (Swept before after s) = decimal before ∷ decimal after ∷ decimal s.rewrites ∷ decimal s.rounds ∷ decimal (cond s.left 1 0) ∷ []
 
+abbrev pub fault_of : Fate → List ℕ
+fault_of Unread = codes "unread"
+fault_of (Refused before fault) = decimal (number fault)
+fault_of (Stopped before after s) = decimal (number s.fault)
+fault_of (Swept before after s) = decimal 0
+
+-- The row of a file, as `csv` writes one.
 abbrev pub row_of : Record → List ℕ
-row_of r = row_text default_writer (r.file.now ∷ cells_of r.fate)
+row_of r = row_text default_writer (r.file.now ∷ (counts_of r.fate ++ fault_of r.fate ∷ []))
 
+-- A header, and the rows in order.
 abbrev pub table_of : List Record → List ℕ
 table_of rs = row_text default_writer header ++ flat_map row_of rs

@@ -85,8 +85,8 @@ pub fn show_all(
     for_all(rt, paths, |path| show(rt, path))
 }
 
-// Prints what is left of the payoff of each file, and says of each other one why there is none. The table of all of them
-// is written where one is asked for. Progress is shown where somebody watches.
+// Prints what is left of the payoff of each file, and says of each other one why there is none. Writes the table of all
+// files where one is asked for, and shows progress where somebody watches.
 pub fn shorten_all(
     rt: &(impl Files + Clock + Print + Eprint + AllocGlobal),
     options: &Options,

@@ -1,7 +1,7 @@
 // What became of files, and the table that tells it.
 ghost use Rattle.std.specs.Prelude.{◌≡◌, IfOk, Some, map};
 ghost use Rattle.csv.specs.Writing.{row_text, default_writer};
-ghost use Rattle.payoff.specs.Records.{text_of, cells_of, row_of, table_of};
+ghost use Rattle.payoff.specs.Records.{text_of, counts_of, fault_of, row_of, table_of};
 
 use anyhow::bail;
 use base::Fault;
@@ -52,55 +52,53 @@ impl Fate {
         }
     }
 
-    // What a row tells: the lengths before and after, rewrites, rounds, whether places were left, and the fault.
-    fn cells(self) -> [Cell; 6]
-        ensures { map text_of result ≡ cells_of self }
+    // What a row tells before the fault: the lengths before and after, rewrites, rounds, and whether places were left.
+    fn counts(self) -> [Cell; 5]
+        ensures { map text_of result ≡ counts_of self }
     {
         match self {
-            Fate::Unread => [
-                Cell::Empty,
-                Cell::Empty,
-                Cell::Empty,
-                Cell::Empty,
-                Cell::Empty,
-                Cell::Unread,
-            ],
-            Fate::Refused { before, fault } => [
+            Fate::Unread => [Cell::Empty; 5],
+            Fate::Refused { before, .. } => [
                 Cell::Number(before),
                 Cell::Empty,
                 Cell::Empty,
                 Cell::Empty,
                 Cell::Empty,
-                Cell::Number(fault.number() as usize),
             ],
             Fate::Stopped {
                 before,
                 after,
-                refused: SweepRefused { fault, rewrites },
+                refused,
             } => [
                 Cell::Number(before),
                 Cell::Number(after),
-                Cell::Number(rewrites as usize),
+                Cell::Number(refused.rewrites as usize),
                 Cell::Empty,
                 Cell::Empty,
-                Cell::Number(fault.number() as usize),
             ],
             Fate::Swept {
                 before,
                 after,
-                swept: Swept {
-                    rewrites,
-                    rounds,
-                    left,
-                },
+                swept,
             } => [
                 Cell::Number(before),
                 Cell::Number(after),
-                Cell::Number(rewrites as usize),
-                Cell::Number(rounds as usize),
-                Cell::Number(usize::from(left)),
-                Cell::Number(0),
+                Cell::Number(swept.rewrites as usize),
+                Cell::Number(swept.rounds as usize),
+                Cell::Number(usize::from(swept.left)),
             ],
+        }
+    }
+
+    // What a row tells of the fault.
+    fn fault(self) -> Cell
+        ensures { text_of result ≡ fault_of self }
+    {
+        match self {
+            Fate::Unread => Cell::Unread,
+            Fate::Refused { fault, .. } => Cell::Number(fault.number() as usize),
+            Fate::Stopped { refused, .. } => Cell::Number(refused.fault.number() as usize),
+            Fate::Swept { .. } => Cell::Number(0),
         }
     }
 }
@@ -157,7 +155,7 @@ pub fn table(heap: Global, records: &[Record<'_>]) -> anyhow::Result<Vec<u8>>
 fn row(heap: Global, one: Record<'_>) -> anyhow::Result<Vec<u8>>
     ensures { IfOk result (λ text. text.items ≡ row_of one.entry) }
 {
-    let [before, after, rewrites, rounds, left, fault] = one.fate.cells();
+    let [before, after, rewrites, rounds, left] = one.fate.counts();
     line(
         heap,
         &[
@@ -167,7 +165,7 @@ fn row(heap: Global, one: Record<'_>) -> anyhow::Result<Vec<u8>>
             rewrites.to_string(heap)?.as_bytes(),
             rounds.to_string(heap)?.as_bytes(),
             left.to_string(heap)?.as_bytes(),
-            fault.to_string(heap)?.as_bytes(),
+            one.fate.fault().to_string(heap)?.as_bytes(),
         ],
     )
 }
