@@ -1,4 +1,4 @@
-// Gives damaged input to the program: node vectors/damage.js [--seed N] [--lines N] [--files N] PROGRAM WORD..
+// Gives damaged input to the program: node vectors/damage.js [--start N] [--lines N] [--files N] PROGRAM WORD..
 //
 // Makes lines for `payoff script` by chance from a fixed start (damaged.js): damaged files, tables, texts and lines.
 // Has PROGRAM answer them all, in batches, and compares each answer with that of protocol.js; it has to end with
@@ -18,7 +18,7 @@ const { LIMITS, bytesOf, judged } = require('./format');
 const { answerOf, itemsOf } = require('./protocol');
 const { startFrom, anyInput, largeInputs, damagedFile, soundParts, anyRow, below, oneOf } = require('./damaged');
 
-const options = { seed: 20260505, lines: 250000, files: 4000 };
+const options = { start: 20260505, lines: 250000, files: 4000 };
 const command = process.argv.slice(2);
 while (command.length > 0 && command[0].startsWith('--')) options[command.shift().slice(2)] = Number(command.shift());
 if (command.length === 0) throw new Error('which program?');
@@ -194,7 +194,7 @@ function askOddWords() {
 
 // ---- A run ----
 
-startFrom(options.seed);
+startFrom(options.start);
 let asked = 0;
 let bytes = 0;
 for (let number = 0; asked < options.lines; number++) {
@@ -210,7 +210,7 @@ if (options.files > 0) {
 }
 fs.rmSync(folder, { recursive: true, force: true });
 for (const key of Object.keys(counts).sort()) console.log(`${String(counts[key]).padStart(8)} ${key}`);
-console.log(`${asked} lines of ${bytes} bytes, ${options.files} files, seed ${options.seed}`);
+console.log(`${asked} lines of ${bytes} bytes, ${options.files} files, start ${options.start}`);
 const missed = times(13, (_, i) => i + 1).filter((n) => counts[`answers, refused ${n}`] === undefined);
 if (missed.length > 0 && options.lines > 0) fault('all lines', 'each fault', `none of ${missed.join(', ')}`);
 const shortest = wrong.lines.sort((a, b) => a.shown.length - b.shown.length).slice(0, 1);
