@@ -16,7 +16,9 @@ struct ConcatCall {
     arguments: ListRun,
 }
 
-// The chain that ends with the call, if there is one.
+// The chain that ends with the call, if there is one. It stands in its callers, so that the table is not handed on, and its
+// place not cleared where there is no chain.
+#[inline(always)]
 pub fn collect_arguments(stores: &Stores<'_>, node: u32) -> Option<ConcatChain>
     ensures { Collects (held_of stores.now) node result }
 {
@@ -45,6 +47,7 @@ pub fn collect_arguments(stores: &Stores<'_>, node: u32) -> Option<ConcatChain>
     None
 }
 
+#[inline(always)]
 fn concat_call(stores: &Stores<'_>, node: u32) -> Option<ConcatCall>
     ensures { ConcatAt (held_of stores.now) node result }
 {
