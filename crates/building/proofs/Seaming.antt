@@ -3,6 +3,8 @@ use Rattle.std.proofs.Common.{◌≡◌, ℕ, ◌+◌, ◌<◌, true, false, ◌
 use lib.Utf8.{encode}
 use Rattle.std.proofs.lemmas.Bool.{cases_Bool, cond-true, cond-false, and_from, and_left, and_right, leb-true}
 use Rattle.std.proofs.lemmas.List.{drop_at}
+use Rattle.text.specs.declared.encoded.Encoded.{Encoded}
+use Rattle.text.specs.Encoded.{bytes_of}
 use Rattle.text.specs.Utf16.{leading, trailing, paired}
 use Rattle.text.specs.Points.{ends, last_leading, first_trailing}
 use Rattle.text.specs.Laws.{begins_trailing}
@@ -48,7 +50,7 @@ module _ (bytes : List ℕ) (start : ℕ) (run : Run ℕ) (s : List ℕ) (o : Op
   last_of : (front u v : List ℕ) → TwoTexts bytes start run front u v → o ≡ last_leading u
   last_of front u v two = said u (two.ends.text, sym (is ∙ ap (drop start) two.ends.is ∙ drop_at front (stored u) start two.ends.starts))
 
-  pub no_last : (r : Option (List ℕ)) → o ≡ None → r ≡ None → SeamOf bytes start run r
+  pub no_last : (r : Option Encoded) → o ≡ None → r ≡ None → SeamOf bytes start run r
   no_last r e f front u v two =
       subst (Seam u v) (sym f)
       (and_left (ends false u) (begins_trailing v) (sym (some_last u) ∙ ap is_some (sym (last_of front u v two) ∙ e)))
@@ -57,19 +59,19 @@ module _ (bytes : List ℕ) (start : ℕ) (run : Run ℕ) (s : List ℕ) (o : Op
     first_of : (front u v : List ℕ) → TwoTexts bytes start run front u v → p ≡ first_trailing v
     first_of front u v two = tells v (subst (λ l. Stores l v) (sym (at ∙ ap (λ l. text_at l run) two.ends.is ∙ cut_more front run.start run.len (stored u) (leb-true (run.start + run.len) (length front) two.inside))) two.spelled)
 
-    pub no_first : (r : Option (List ℕ)) → p ≡ None → r ≡ None → SeamOf bytes start run r
+    pub no_first : (r : Option Encoded) → p ≡ None → r ≡ None → SeamOf bytes start run r
     no_first r e f front u v two =
         subst (Seam u v) (sym f)
         (and_right (ends false u) (begins_trailing v) (sym (some_first v) ∙ ap is_some (sym (first_of front u v two) ∙ e)))
 
     module _ (h l : ℕ) (leads : o ≡ Some h) (trails : p ≡ Some l) where
-      pub no_pair : (r : Option (List ℕ)) → (leading h && trailing l) ≡ false → SeamOf bytes start run r
+      pub no_pair : (r : Option Encoded) → (leading h && trailing l) ≡ false → SeamOf bytes start run r
       no_pair r e front u v two =
           let a = last_is u h (sym (last_of front u v two) ∙ leads) in
           let b = first_is v l (sym (first_of front u v two) ∙ trails) in
           absurd (true_false (sym (and_from (leading h) (trailing l) a.leads b.trails) ∙ e))
 
-      pub met : (x : ℕ) (r : Option (List ℕ)) → (leading h ≡ true) × (trailing l ≡ true) × (x ≡ paired h l) → MatchOption r (0x10FFFF < x) (λ c. c ≡ encode x) → SeamOf bytes start run r
+      pub met : (x : ℕ) (r : Option Encoded) → (leading h ≡ true) × (trailing l ≡ true) × (x ≡ paired h l) → MatchOption r (0x10FFFF < x) (λ c. bytes_of c ≡ encode x) → SeamOf bytes start run r
       met x None q m front u v two =
           let i = leading_range h q.0 in
           let j = trailing_range l q.1 in

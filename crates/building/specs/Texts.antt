@@ -2,6 +2,8 @@
 use Rattle.std.specs.Prelude.{◌≡◌, ℕ, ◌≤◌, true, false, ◌&&◌, List, [], ◌∷◌, ◌++◌, length, Some, None, Ok, Err, Option, Result}
 use Rattle.std.proofs.Math.Utf8.{encode}
 use Rattle.base.specs.declared.fault.Fault.{Fault}
+use Rattle.text.specs.declared.encoded.Encoded.{Encoded}
+use Rattle.text.specs.Encoded.{bytes_of}
 use Rattle.text.specs.Utf16.{Text, leading, trailing, paired}
 use Rattle.text.specs.Points.{ends}
 use Rattle.text.specs.Laws.{begins_trailing}
@@ -36,11 +38,11 @@ pub record Meeting (u v : List ℕ) (c : List ℕ) : Type 0 where
   pub is : c ≡ encode (paired first second)
 
 -- The character that two texts make where they meet, if they do.
-abbrev pub Seam : (u v : List ℕ) → Option (List ℕ) → Type 0
+abbrev pub Seam : (u v : List ℕ) → Option Encoded → Type 0
 Seam u v None = (ends false u && begins_trailing v) ≡ false
-Seam u v (Some c) = Meeting u v c
+Seam u v (Some c) = Meeting u v (bytes_of c)
 
-abbrev pub SeamOf : (bytes : List ℕ) (start : ℕ) (run : Run ℕ) → Option (List ℕ) → Type 0
+abbrev pub SeamOf : (bytes : List ℕ) (start : ℕ) (run : Run ℕ) → Option Encoded → Type 0
 SeamOf bytes start run r = (front u v : List ℕ) → TwoTexts bytes start run front u v → Seam u v r
 
 -- The store holds so much and a text behind it; or it has no room for that.

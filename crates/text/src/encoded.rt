@@ -1,37 +1,23 @@
-ghost use Rattle.std.specs.Prelude.{◌≡◌, ℕ, ◌-◌, ◌<◌, ◌≤◌, List, ◌++◌, length, take, replicate, MatchOption};
-ghost use Rattle.std.proofs.Common.{ap, sym, ◌∙◌};
-ghost use Rattle.std.proofs.lemmas.List.{length-take-le};
+ghost use Rattle.std.specs.Prelude.{◌≡◌, ◌-◌, ◌<◌, ◌≤◌, ◌++◌, length, take, replicate, MatchOption};
 ghost use Rattle.std.proofs.Math.Utf8.{encode, next};
-ghost use Rattle.text.specs.Encoded.{IsFilled};
 
-use std::marker::Model;
-
-// The bytes of one character, the first `len` of four, and zeros behind them. Clauses see the list of the first. An
-// array and a length, since there is no heap.
+// The bytes of one character, the first `len` of four, and zeros behind them. An array and a length, since there is no
+// heap. No model: a struct that holds one with a model could not be copied by passing it, nor be handed on by `?`
+// beside a reference.
 #[derive(Clone, Copy)]
 pub struct Encoded {
     bytes: [u8; 4],
     len: usize,
-}
-
-impl Model for Encoded {
-    ghost Value = { List ℕ };
-
-    ghost view = { λ e. take e.len e.bytes };
-
-    ghost invariant = { λ e. IsFilled e.bytes e.len };
-
-    ghost inverse = { λ bytes. record { bytes = bytes ++ replicate (4 - length bytes) 0; len = length bytes } };
-
-    ghost inverse_ok = { λ e kept.
-        ap (λ n. record { bytes = take e.len e.bytes ++ replicate (4 - n) 0; len = n }) (length-take-le e.len e.bytes kept.within)
-        ∙ ap (λ bytes. record { bytes = bytes; len = e.len }) (sym kept.zeros_behind) };
+    ghost short: { len ≤ 4 },
+    ghost zeros_behind: { bytes ≡ take len bytes ++ replicate (4 - len) 0 },
 }
 
 impl Encoded {
+    ghost use Rattle.text.specs.Encoded.{bytes_of};
+
     // The bytes of a code point, surrogates among them, if there is one of this number.
     pub fn new(code: u32) -> Option<Encoded>
-        ensures { MatchOption result (0x10FFFF < code) (λ e. e ≡ encode code) }
+        ensures { MatchOption result (0x10FFFF < code) (λ e. bytes_of e ≡ encode code) }
     {
         match code {
             0..=0x7F => Some(Encoded {
@@ -65,7 +51,8 @@ impl Encoded {
     }
 
     pub fn as_bytes(&self) -> &[u8]
-        ensures { result.now ≡ self.now }
+        ensures bytes { result.now ≡ bytes_of self.now }
+        ensures short { length result.now ≤ 4 }
     {
         &self.bytes[0..self.len]
     }

@@ -7,6 +7,7 @@ use super::survey::walk;
 use base::Fault;
 
 // Whether the bytes are the stored form of a text.
+#[tactic(auto, using(crate::proofs::Surveying::lawful_where_surveyed))]
 pub fn is_lawful(text: &[u8]) -> bool
     ensures { MatchBool result (Lawful text.now) (Lawful text.now → ⊥) }
 {

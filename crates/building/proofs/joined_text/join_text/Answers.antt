@@ -15,13 +15,13 @@ returns-in_err-append-clause-joins c front u v two =
     let p = err_from_is_err_and c.from_residual.result c.from_residual.ensures.1 in
     rw p.1
     (no_pair c.args.text.now c.args.start c.args.run front u v two c.as_bytes.result.now
-    (subst (Meeting u v) (sym c.as_bytes.ensures) (c.in-Some.ensures front u v (subst (λ l. TwoTexts l c.args.start c.args.run front u v) (sym c.items.ensures) two))) c.shorten.new.self c.shorten.ensures.fewer c.shorten.ensures.memory
+    (subst (Meeting u v) (sym c.as_bytes.ensures.bytes) (c.in-Some.ensures front u v (subst (λ l. TwoTexts l c.args.start c.args.run front u v) (sym c.items.ensures) two))) c.shorten.new.self c.shorten.ensures.fewer c.shorten.ensures.memory
     c.append.new.self c.in_err-append.field-0.0 c.in_err-append.ensures)
 
 pub returns-clause-joins : goal.returns-clause-joins
 returns-clause-joins c front u v two =
     met c.args.text.now c.args.start c.args.run front u v two c.as_bytes.result.now
-    (subst (Meeting u v) (sym c.as_bytes.ensures) (c.in-Some.ensures front u v (subst (λ l. TwoTexts l c.args.start c.args.run front u v) (sym c.items.ensures) two))) c.shorten.new.self c.shorten.ensures.fewer c.shorten.ensures.memory
+    (subst (Meeting u v) (sym c.as_bytes.ensures.bytes) (c.in-Some.ensures front u v (subst (λ l. TwoTexts l c.args.start c.args.run front u v) (sym c.items.ensures) two))) c.shorten.new.self c.shorten.ensures.fewer c.shorten.ensures.memory
     c.append.new.self c.in_ok-append.field-0 c.in_ok-append.ensures c.append_within-2.new.self c.append_within-2.result c.saturating_sub.result c.saturating_sub.ensures c.append_within-2.ensures
 
 pub returns-in_default-clause-fault : goal.returns-in_default-clause-fault

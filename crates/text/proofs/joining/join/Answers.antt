@@ -36,5 +36,5 @@ returns c =
     (take (length left - 3 - 0) left) c.as_bytes.result.now (take (length right - 3) (drop 3 right))
     c.in-Some.code c.write-2.result
     (subst (λ o. Meets left right (Ok o)) c.in-Some.is c.in_ok-code.ensures)
-    (ap (λ n. take n left) (omega arith)) (c.as_bytes.ensures ∙ c.in-Some-new.ensures) (take_rest right 3)
+    (ap (λ n. take n left) (omega arith)) (c.as_bytes.ensures.bytes ∙ c.in-Some-new.ensures) (take_rest right 3)
     c.write-2.ensures
