@@ -1,10 +1,11 @@
 -- The code points that escapes stand for.
-use Rattle.std.proofs.Common.{◌≡◌, ℕ, ◌<◌, ◌≤◌, true, List, ⊎_elim, arith}
-use lib.Utf8.{scalar_cases}
+use Rattle.std.proofs.Common.{◌≡◌, ℕ, ◌<◌, ◌≤◌, true, List, ◌∷◌, length, ⊎_elim, arith}
+use lib.Utf8.{encodes, scalar_cases}
 use Rattle.std.specs.Char.{digit_value}
 use Rattle.std.proofs.lemmas.Bool.{ltb-true}
+use Rattle.std.proofs.lemmas.Str.{length-le-encodes}
 use Rattle.std.proofs.lemmas.Bool.Decides.{nat_tests}
-use Rattle.template.specs.Grammar.{Escape, single, non_escape, null, hex, hex4, code_point, is_single, single_value, escape_code, escape_allowed}
+use Rattle.template.specs.Grammar.{Escape, single, non_escape, null, hex, hex4, code_point, is_single, single_value, escape_source, escape_code, escape_allowed}
 
 single_low : (c : ℕ) → is_single c ≡ true → c < 0x80
 single_low c e = grind (arith, nat_tests)
@@ -21,3 +22,15 @@ escape_small (hex a b) rest h = omega (arith, ltb-true (digit_value a) 16 h.0, l
 escape_small (hex4 a b c d) rest h =
     omega (arith, ltb-true (digit_value a) 16 h.0, ltb-true (digit_value b) 16 h.1.0, ltb-true (digit_value c) 16 h.1.1.0, ltb-true (digit_value d) 16 h.1.1.1.0)
 escape_small (code_point ds) rest h = h.2
+
+source_some : (e : Escape) → 1 ≤ length (escape_source e)
+source_some (single c) = omega arith
+source_some (non_escape c) = omega arith
+source_some null = omega arith
+source_some (hex a b) = omega arith
+source_some (hex4 a b c d) = omega arith
+source_some (code_point ds) = omega arith
+
+-- An escape takes at least two bytes.
+pub escape_long : (e : Escape) → 2 ≤ length (encodes (0x5C ∷ escape_source e))
+escape_long e = omega (arith, length-le-encodes (0x5C ∷ escape_source e), source_some e)

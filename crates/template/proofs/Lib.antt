@@ -2,6 +2,7 @@ pub mod Adding
 pub mod Alike
 pub mod Back
 pub mod Backslashes
+pub mod Bounded
 pub mod Braces
 pub mod CookWalk
 pub mod EscapeValues

@@ -1,15 +1,20 @@
 -- Comparing piece by piece.
-use Rattle.std.proofs.Common.{ℕ, ◌≤◌, Bool, true, false, List, [], ◌∷◌, ◌++◌, Some, None, MatchBool, Option, sym, refl, ap, ◌∙◌, subst, arith, Bor}
+use Rattle.std.proofs.Common.{◌≡◌, ℕ, ◌≤◌, Bool, true, false, List, [], ◌∷◌, ◌++◌, Some, None, MatchBool, Option, is_some, sym, refl, ap, ◌∙◌, subst, inl, inr, arith, Bor}
 use Rattle.std.proofs.lemmas.List.{append-nil, append_assoc, append_cancel_left}
 use Rattle.text.specs.Stored.{stored}
 use Rattle.text.specs.Utf16.{Text, utf16}
 use Rattle.text.proofs.Pairing.{text_append, text_units}
 use Rattle.template.specs.Comparing.{IsPassed, Passes}
-use Rattle.template.specs.Cooked.{Cooks, CooksTo}
+use Rattle.base.specs.declared.fault.Fault.{Fault}
+use Rattle.base.specs.Questions.{Refuses}
+use Rattle.template.specs.Cooked.{Cooks, CooksTo, WellFormed}
+use Rattle.template.specs.Cooking.{withheld}
+use Rattle.template.specs.declared.comparing.Compared.{Compared}
+use Rattle.template.proofs.CookWalk.{CookWalk, cook_refuse}
 use Rattle.template.specs.Grammar.{TemplateCharacter, dollar, escape, continuation, line_end, other, lf, cr, ls, ps, crlf, escape_code, value, values, Allowed, AllAllowed}
 use Rattle.template.proofs.EscapeValues.{escape_small}
 use Rattle.template.proofs.Plains.{scalar_quiet}
-use Rattle.template.proofs.Reading.{cooks_once}
+use Rattle.template.proofs.Reading.{cooks_once, cooks_rest}
 
 pub passes_nothing : (r : Option (Bor (List ℕ))) → Passes r [] r
 passes_nothing None = refl
@@ -56,3 +61,34 @@ all_passed raw cooked (Some rest) true us c p h =
     (us, c, (cooks_text raw us c, sym (append-nil (stored us)) ∙ ap (λ l. stored us ++ l) (sym h) ∙ sym p))
 all_passed raw cooked (Some rest) false us c p h =
     λ k. h (append_cancel_left (stored us) rest.now [] (sym p ∙ sym k.2.1 ∙ ap stored (cooks_once raw k.0 us k.1 c) ∙ sym (append-nil (stored us))))
+
+-- ---- part by part
+
+-- Taking pieces of the text.
+abbrev pub Taken : Compared → List ℕ → Compared → Type 0
+Taken start piece now = Passes start.rest piece now.rest
+
+pub nothing : (o : Option (Bor (List ℕ))) → is_some o ≡ false → o ≡ None
+nothing None e = refl
+nothing (Some bytes) e = absurd (subst (λ b. MatchBool b (Unit {0}) ⊥) e tt)
+
+-- Before the first part nothing is read.
+pub begun : (raw : List ℕ) (cooked : Bor (List ℕ)) → CookWalk Taken (record { rest = Some cooked }) raw raw (record { rest = Some cooked }) None
+begun raw cooked = ([], refl, tt, ([], λ start bytes p. subst (λ l. Passes start.rest l (Some cooked)) (sym (append-nil bytes)) p, λ vs. refl))
+
+-- Where what was handed on and the text part, the raw text cooks to no such text, whatever follows.
+pub parted : (raw rest : List ℕ) (cooked : Bor (List ℕ)) (now : Compared) (lead : Option ℕ) → CookWalk Taken (record { rest = Some cooked }) raw rest now lead → now.rest ≡ None → CooksTo raw cooked.now → ⊥
+parted raw rest cooked now lead w none k =
+    let hands = w.3 in
+    let front = hands.0 in
+    let behind = cooks_rest w.0 rest raw k.0 w.1 w.2 k.1 in
+    let more = stored (withheld lead ++ behind.0) in
+    let taken : Passes (Some cooked) front None = subst (Passes (Some cooked) front) none (hands.1 (record { rest = Some cooked }) [] (passes_nothing (Some cooked))) in
+    taken more (sym k.2.1 ∙ ap stored behind.2 ∙ hands.2 behind.0)
+
+-- Nor does it where what is left of it is malformed.
+pub refused : (raw rest : List ℕ) (cooked : Bor (List ℕ)) (now : Compared) (lead : Option ℕ) (e : Fault) → CookWalk Taken (record { rest = Some cooked }) raw rest now lead → Refuses (((12, 0), WellFormed rest) ∷ []) e → CooksTo raw cooked.now → ⊥
+refused raw rest cooked now lead e w r k = elim (cook_refuse Taken (record { rest = Some cooked }) raw rest now lead e w r) [
+  | inl bad ↦ bad.1 (k.0, k.1)
+  | inr bad ↦ absurd bad.1
+]

@@ -106,3 +106,13 @@ cooks_parts a b ts vs e front c =
     let both : encodes (sources (ts ++ us)) ≡ a ++ b = cc (sources_append ts us, encodes-append (sources ts) (sources us)) in
     let value : values (ts ++ us) ≡ values ts ++ vs = cc (values_append ts us) in
     (ts ++ us, (all, both), value)
+
+-- Where the front has a reading, what the whole cooks to is its value and then what the rest cooks to.
+pub cooks_rest : (ts : List TemplateCharacter) (rest bs us : List ℕ) → encodes (sources ts) ++ rest ≡ bs → AllAllowed ts rest → Cooks bs us → (vs : List ℕ) × Cooks rest vs × (us ≡ values ts ++ vs)
+cooks_rest ts rest bs us e front c = elim (read_past ts c.0 rest [] bs e front (append-nil (encodes (sources c.0)) ∙ c.1.1) c.1.0) [
+  | inl r ↦
+      (let behind : Cooks rest (values r.0) = (r.0, (r.1, sym (append-nil (encodes (sources r.0))) ∙ r.2), refl) in
+      let whole : Cooks bs (values ts ++ values r.0) = subst (λ l. Cooks l (values ts ++ values r.0)) e (cooks_parts (encodes (sources ts)) rest ts (values r.0) refl front behind) in
+      (values r.0, behind, cooks_once bs us (values ts ++ values r.0) c whole))
+  | inr r ↦ absurd (omega (arith, ap length r.3, encode_some r.0 (encodes r.1 ++ rest)))
+]

@@ -1,6 +1,7 @@
 -- What holds of escaping and cooking, whatever the text.
-use Rattle.std.specs.Prelude.{◌≡◌, ℕ, List, [], ◌∷◌, ◌++◌}
+use Rattle.std.specs.Prelude.{◌≡◌, ℕ, ◌*◌, ◌≤◌, List, [], ◌∷◌, ◌++◌, length}
 use Rattle.std.proofs.Math.Utf8.{encodes}
+use Rattle.text.specs.Stored.{stored}
 use Rattle.text.specs.Utf16.{Text}
 use Rattle.template.specs.Grammar.{TemplateCharacter, sources, values, AllAllowed}
 use Rattle.template.specs.Cooked.{Cooks}
@@ -24,3 +25,7 @@ abbrev pub WholeCooksAsItsParts : Type 0
 WholeCooksAsItsParts =
     (front rest : List ℕ) (ts : List TemplateCharacter) (us : List ℕ) → encodes (sources ts) ≡ front
     → AllAllowed ts rest → Cooks rest us → Cooks (front ++ rest) (values ts ++ us)
+
+-- No raw text cooks to more than twice as many bytes.
+abbrev pub CookedAtMostTwice : Type 0
+CookedAtMostTwice = (raw us : List ℕ) → Cooks raw us → length (stored us) ≤ 2 * length raw

@@ -3,9 +3,9 @@ ghost use Rattle.std.specs.Prelude.{MatchBool};
 ghost use Rattle.template.specs.Comparing.{IsPassed, Passes};
 ghost use Rattle.template.specs.Cooked.{CooksTo};
 
-use super::cooking::RawText;
+use super::cooking::Withheld;
+use super::raw::RawReader;
 use super::sink::Sink;
-use super::walk::Walk;
 
 // What is left of a text once what was taken is passed, or None where the two differ.
 #[derive(Clone, Copy)]
@@ -32,13 +32,23 @@ impl Sink for Compared<'_> {
     }
 }
 
-// Whether the raw text is well formed and cooks to the text whose stored form is `cooked`.
+// Whether the raw text is well formed and cooks to the text whose stored form is `cooked`. It is no walk, since it reads
+// no further than to the part where the two differ.
 pub fn cooks_to(raw: &[u8], cooked: &[u8]) -> bool
     ensures { MatchBool result (CooksTo raw.now cooked.now) (CooksTo raw.now cooked.now → ⊥) }
 {
+    let mut reader = RawReader::new(raw);
+    let mut withheld = Withheld { lead: None };
     let mut left = Compared { rest: Some(cooked) };
-    match (RawText { raw }).walk(&mut left) {
-        Ok(()) => left.is_passed(),
-        Err(_) => false,
+    while left.rest.is_some() {
+        match reader.next() {
+            Ok(Some(part)) => withheld.put_part(part, &mut left),
+            Ok(None) => {
+                withheld.put(&mut left);
+                return left.is_passed();
+            }
+            Err(_) => return false,
+        }
     }
+    false
 }

@@ -59,14 +59,14 @@ fn completed(lead: Option<u32>, code: u32) -> Option<u32>
 
 // A leading surrogate that was read last. It is withheld, since a trailing one would make one character with it.
 #[derive(Drop)]
-struct Withheld {
-    lead: Option<u32>,
+pub(crate) struct Withheld {
+    pub(crate) lead: Option<u32>,
     ghost half: { ForSome lead (λ h. leading h ≡ true) },
 }
 
 impl Withheld {
     // Hands on the withheld surrogate, if there is one.
-    fn put<S: Sink>(&mut self, sink: &mut S)
+    pub(crate) fn put<S: Sink>(&mut self, sink: &mut S)
         ensures taken { Adds S.Took sink.old (stored (withheld self.old.lead)) sink.new }
         ensures none { self.new.lead ≡ None }
     {
@@ -93,7 +93,7 @@ impl Withheld {
     }
 
     // Hands on what one part of the raw text stands for.
-    fn put_part<S: Sink>(&mut self, part: RawPart<'_>, sink: &mut S)
+    pub(crate) fn put_part<S: Sink>(&mut self, part: RawPart<'_>, sink: &mut S)
         requires { Stands part }
         ensures { HandsPart S.Took sink.old self.old.lead part.entry sink.new self.new.lead }
     {

@@ -1,5 +1,5 @@
 // Laws of escaping and cooking: each function does nothing, and its contract states the law.
-ghost use Rattle.template.specs.Laws.{EscapedTextCooksBack, EscapeExamples, CookingIsOne, WholeCooksAsItsParts};
+ghost use Rattle.template.specs.Laws.{EscapedTextCooksBack, EscapeExamples, CookingIsOne, WholeCooksAsItsParts, CookedAtMostTwice};
 
 // Escaped text cooks back to the text.
 pub fn escaped_text_cooks_back()
@@ -19,4 +19,9 @@ pub fn cooking_is_one()
 // What the front and the rest cook to is, one behind the other, what the whole cooks to.
 pub fn whole_cooks_as_its_parts()
     ensures { WholeCooksAsItsParts }
+{}
+
+// No raw text cooks to more than twice as many bytes.
+pub fn cooked_text_is_at_most_twice_as_long()
+    ensures { CookedAtMostTwice }
 {}

@@ -17,6 +17,7 @@ pub use cooking::cook;
 pub use escaping::escape;
 pub use extent::Extent;
 pub use laws::{
-    cooking_is_one, escape_examples, escaped_text_cooks_back, whole_cooks_as_its_parts,
+    cooked_text_is_at_most_twice_as_long, cooking_is_one, escape_examples, escaped_text_cooks_back,
+    whole_cooks_as_its_parts,
 };
 pub use raw::{RawPart, RawReader};
