@@ -90,6 +90,11 @@ LinksChecked l (Err e) = Refuses (link_questions l) e
 abbrev pub FitsIn : Sections → Counts → Type 0
 FitsIn s rooms = (length s.nodes.now ≤ rooms.nodes) × (length s.entries.now ≤ rooms.entries) × (length s.text.now ≤ rooms.text)
 
+-- The questions of the header and of the rooms are answered yes, or the first no is named.
+abbrev pub Fitting : List ℕ → Counts → Result Sections Fault → Type 0
+Fitting file rooms (Ok s) = CutsInto file (Ok s) × FitsIn s rooms
+Fitting file rooms (Err e) = Refuses (load_questions file rooms) e
+
 -- All questions are answered yes, or the first no is named.
 abbrev pub Checked : List ℕ → Counts → Result Records Fault → Type 0
 Checked file rooms (Ok r) =
