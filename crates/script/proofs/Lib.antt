@@ -3,3 +3,4 @@ pub mod Pairs
 pub mod Replying
 pub mod Requested
 pub mod Spaces
+pub mod Stepping

@@ -1,9 +1,8 @@
 -- What the words of a line ask for. Assumes nothing.
-use Rattle.std.proofs.Common.{◌≡◌, ℕ, zero, suc, ◌-◌, ◌/◌, ◌%◌, ◌^◌, ◌<◌, ◌≤◌, ◌⊎◌, List, [], ◌∷◌, ◌++◌, Ok, Err, Result, length, get_or, sym, refl, ap, ◌∙◌, subst, inl, inr, append-nil, arith, Bor, IsUtf8, map}
+use Rattle.std.proofs.Common.{◌≡◌, ℕ, zero, suc, ◌-◌, ◌/◌, ◌%◌, ◌^◌, ◌<◌, ◌≤◌, ◌⊎◌, List, [], ◌∷◌, ◌++◌, Ok, Err, Result, ◌≢◌, length, get_or, sym, refl, ap, ◌∙◌, subst, inl, inr, append-nil, arith, Bor, IsUtf8, map}
 use Rattle.std.proofs.lemmas.Bool.Decides.{nat_tests}
 use Rattle.std.proofs.lemmas.Grind.{common_steps}
 use Rattle.std.proofs.lemmas.Fmt.{IsAscii-from_digits}
-use Rattle.std.proofs.lemmas.List.{length-map}
 use Rattle.std.proofs.lemmas.List.Splits.{join_with_byte-slice_split}
 use Rattle.std.proofs.lemmas.Str.{IsUtf8-from_ascii, IsAscii-append}
 use Rattle.std.specs.Char.{digit_char}
@@ -13,7 +12,7 @@ use Rattle.std.specs.Str.Parse.{IsNumeral, digits_value}
 use Rattle.script.specs.Hex.{hexed}
 use Rattle.script.specs.Parts.{name_of}
 use Rattle.script.specs.Requests.{RoomSaid, Asks, PartsRead, RequestRead}
-use Rattle.script.specs.Words.{Bytes, WordsRead, words}
+use Rattle.script.specs.Words.{Bytes, words}
 use Rattle.script.specs.declared.request.Call.{Call}
 use Rattle.script.specs.declared.request.Call.TheVariants.{Escape, Cook}
 use Rattle.script.specs.declared.request.Request.{Request}
@@ -28,6 +27,11 @@ Idle line = (call : Call) (bytes : List ℕ) (room : ℕ) → Bytes bytes → As
 pub idle : (line : List ℕ) (e : Flaw) → Idle line → RequestRead line (Err e)
 idle line Malformed i = i
 idle line Memory i = tt
+
+-- What begins with the name of no call asks for nothing.
+pub unnamed : (line : List ℕ) → ((rest : List ℕ) → line ≢ name_of Escape ++ 0x20 ∷ rest) → ((rest : List ℕ) → line ≢ name_of Cook ++ 0x20 ∷ rest) → Idle line
+unnamed line no_escape no_cook Escape bytes room b a = no_escape (hexed bytes ++ a.0) a.2
+unnamed line no_escape no_cook Cook bytes room b a = no_cook (hexed bytes ++ a.0) a.2
 
 -- The words of a line that asks for something.
 abbrev Said : List (List ℕ) → Call → List ℕ → ℕ → Type 0
@@ -59,13 +63,7 @@ joined line ws e = sym (join_with_byte-slice_split 0x20 line) ∙ ap (join_with_
 pub words_read : (line : List ℕ) (v s : List (Bor (List ℕ))) → map (λ x. x.now) v ≡ words line → s ≡ v → words line ≡ map (λ x. x.now) s
 words_read line v s e same = sym e ∙ ap (map (λ x. x.now)) (sym same)
 
--- A list of two or of three borrowed texts.
-pub two_of : (v : List (Bor (List ℕ))) (d : Bor (List ℕ)) → 2 ≤ length v → length v < 3 → map (λ x. x.now) v ≡ (get_or v 0 d).now ∷ (get_or v 1 d).now ∷ []
-two_of [] d l m = absurd (omega arith)
-two_of (x ∷ []) d l m = absurd (omega arith)
-two_of (x ∷ y ∷ []) d l m = refl
-two_of (x ∷ y ∷ z ∷ v) d l m = absurd (omega arith)
-
+-- A list of three borrowed texts.
 pub three_of : (v : List (Bor (List ℕ))) (d : Bor (List ℕ)) → 3 ≤ length v → length v < 4 → map (λ x. x.now) v ≡ (get_or v 0 d).now ∷ (get_or v 1 d).now ∷ (get_or v 2 d).now ∷ []
 three_of [] d l m = absurd (omega arith)
 three_of (x ∷ []) d l m = absurd (omega arith)
@@ -126,10 +124,9 @@ counted : (ws : List (List ℕ)) (call : Call) (bytes : List ℕ) (room : ℕ) �
 counted ws call bytes room (inl s) = inl (ap length s.0)
 counted ws call bytes room (inr s) = inr (ap length s.1)
 
-pub miscounted : (line : List ℕ) (v : List (Bor (List ℕ))) → words line ≡ map (λ x. x.now) v → (length v ≡ 2 → ⊥) → (length v ≡ 3 → ⊥) → Idle line
-miscounted line v e not_two not_three call bytes room b a =
-    let same : length (words line) ≡ length v = ap length e ∙ length-map v (λ x. x.now) in
-    elim (counted (words line) call bytes room (said line call bytes room a.0 a.1 a.2)) [ inl n ↦ not_two (sym same ∙ n) | inr n ↦ not_three (sym same ∙ n) ]
+pub miscounted : (line : List ℕ) → (length (words line) ≡ 2 → ⊥) → (length (words line) ≡ 3 → ⊥) → Idle line
+miscounted line not_two not_three call bytes room b a =
+    elim (counted (words line) call bytes room (said line call bytes room a.0 a.1 a.2)) [ inl n ↦ not_two n | inr n ↦ not_three n ]
 
 -- Only UTF-8 asks for something.
 ascii_name : (call : Call) → IsAscii (name_of call)
@@ -158,7 +155,3 @@ no_text line not_text call bytes room b a =
     let tail : IsAscii (hexed bytes ++ a.0) = IsAscii-append (hexed bytes) a.0 (ascii_hexed bytes b) (ascii_end room a.0 a.1) in
     let all : IsAscii (name_of call ++ 0x20 ∷ (hexed bytes ++ a.0)) = IsAscii-append (name_of call) (0x20 ∷ (hexed bytes ++ a.0)) (ascii_name call) (ascii_space (hexed bytes ++ a.0) tail) in
     not_text (IsUtf8-from_ascii line (subst IsAscii (sym a.2) all))
-
-pub not_words : (line : List ℕ) (e : Flaw) → WordsRead line (Err e) → RequestRead line (Err e)
-not_words line Malformed n = no_text line n
-not_words line Memory n = tt

@@ -1,5 +1,5 @@
 -- Reading a line and a word of the protocol. A word stands for bytes if it is what they are written as.
-use Rattle.std.specs.Prelude.{◌≡◌, ◌==◌, ℕ, List, [], ◌∷◌, Ok, Err, vec_items, Result, Vec, ◌≢◌, map, IsUtf8}
+use Rattle.std.specs.Prelude.{◌≡◌, ◌==◌, ℕ, List, [], ◌∷◌, length, Some, None, Ok, Err, vec_items, Option, Result, Vec, ◌≢◌, map, IsUtf8}
 use Rattle.std.specs.List.{slice_split}
 use Rattle.std.specs.Borrow.{Bor}
 use Rattle.std.specs.declared.alloc.Global.{Global}
@@ -16,6 +16,12 @@ abbrev pub WordsRead : List ℕ → Result (Vec (Bor (List ℕ)) Global) Flaw �
 WordsRead line (Ok v) = map (λ word. word.now) (vec_items v) ≡ words line
 WordsRead line (Err Malformed) = ¬ (IsUtf8 line)
 WordsRead line (Err Memory) = Unit {0}
+
+-- The words are two or three; None where they are fewer or more.
+abbrev pub TwoOrThree : List (List ℕ) → Option (Bor (List ℕ) × Bor (List ℕ) × Option (Bor (List ℕ))) → Type 0
+TwoOrThree ws None = (length ws ≢ 2) × (length ws ≢ 3)
+TwoOrThree ws (Some (first, second, None)) = ws ≡ first.now ∷ second.now ∷ []
+TwoOrThree ws (Some (first, second, Some third)) = ws ≡ first.now ∷ second.now ∷ third.now ∷ []
 
 abbrev pub Bytes : List ℕ → Type 0
 Bytes [] = Unit {0}

@@ -3,11 +3,11 @@ ghost use Rattle.template.specs.Calls.{Writes};
 ghost use Rattle.script.specs.Parts.{CallRead, NumberRead};
 ghost use Rattle.script.specs.Requests.{PartsRead, RequestRead};
 ghost use Rattle.script.specs.Runs.{Means, form, Answers};
+ghost use Rattle.script.specs.Words.{TwoOrThree, words};
 
 use super::failure::Failure;
 use super::flaw::Flaw;
 use super::hex::bytes_of;
-use super::words::words_of;
 use base::Fault;
 use std::alloc::Global;
 use std::str::{FromStr, from_utf8};
@@ -69,11 +69,18 @@ impl Request {
     pub(crate) fn parse(heap: Global, line: &[u8]) -> Result<Request, Flaw>
         ensures { RequestRead line.now result }
     {
-        match words_of(heap, line)?.as_slice() {
-            [call, text] => Request::of(heap, call, text, usize::MAX),
-            [call, text, room] => Request::of(heap, call, text, number_of(room.as_bytes())?),
-            _ => Err(Flaw::Malformed),
+        // A line that begins with the name of no call is malformed, however long it is.
+        if !line.starts_with(b"escape ") && !line.starts_with(b"cook ") {
+            return Err(Flaw::Malformed);
         }
+        let Some((call, text, room)) = two_or_three(from_utf8(line)?) else {
+            return Err(Flaw::Malformed);
+        };
+        let room = match room {
+            Some(word) => number_of(word.as_bytes())?,
+            None => usize::MAX,
+        };
+        Request::of(heap, call, text, room)
     }
 
     // The request that the words make.
@@ -91,6 +98,21 @@ impl Request {
     {
         self.call.run(heap, self.text.as_slice(), self.room)
     }
+}
+
+// The words of a line that has two or three. No more than four are looked for, and none is kept: a line of many words
+// takes no memory.
+fn two_or_three(line: &str) -> Option<(&str, &str, Option<&str>)>
+    ensures { TwoOrThree (words line.now) result }
+{
+    let mut words = line.split(' ');
+    let first = words.next()?;
+    let second = words.next()?;
+    let third = words.next();
+    if words.next().is_some() {
+        return None;
+    }
+    Some((first, second, third))
 }
 
 // The decimal number that the word writes, with no sign.
