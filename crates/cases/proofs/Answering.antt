@@ -1,6 +1,6 @@
 -- What the calls of a case make of a file that was loaded. Assumes nothing.
 use Rattle.std.proofs.Common.{◌≡◌, ℕ, ◌≤◌, List, ◌++◌, length, drop, codes, inr, Ok, sym, ap, subst, ◌∙◌, arith}
-use Rattle.std.proofs.lemmas.List.{length-append, length-drop}
+use Rattle.std.proofs.lemmas.List.{append_assoc, length-append, length-drop}
 use Rattle.store.specs.declared.store.Store.{Store}
 use Rattle.store.specs.declared.stores.Stores.{Stores}
 use Rattle.store.specs.declared.stores.Counts.{Counts}
@@ -39,6 +39,11 @@ rooms_kept file h old new lawful fits holds = counts_same (rooms_of new) (rooms_
     (room_kept old.nodes new.nodes h.nodes holds.nodes_held (omega (arith, nodes_counted file h lawful, fits.nodes_fit)))
     (room_kept old.entries new.entries h.entries holds.entries_held (omega (arith, entries_counted file h lawful, fits.entries_fit)))
     (room_kept old.text new.text h.text holds.text_held (omega (arith, text_counted file h lawful, fits.text_fits)))
+
+-- What is written before the items, the items, and what is written behind them.
+pub written_so : (front items back before after all : List ℕ) → before ≡ codes "loaded" → after ≡ before ++ items → back ≡ front → all ≡ after ++ back → all ≡ codes "loaded" ++ (items ++ front)
+written_so front items back before after all is_before is_after is_back is_all =
+    is_all ∙ ap (λ xs. after ++ xs) is_back ∙ ap (λ xs. xs ++ front) (is_after ∙ ap (λ xs. xs ++ items) is_before) ∙ append_assoc (codes "loaded") items front
 
 module _ (file bytes : List ℕ) (rooms : Counts) (support : Support) (calls : List CaseCall) (old : Stores) (d : Loaded) (first last : Session) (e : Ended) (end : End) (items text : List ℕ) where
   pub answered_run : bytes ≡ file → rooms_of old ≡ within_limits rooms → Loads bytes old (Ok d) → OpensOn d support first

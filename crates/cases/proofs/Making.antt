@@ -1,6 +1,6 @@
 -- The calls of a case, made one after the other. Assumes nothing.
-use Rattle.std.proofs.Common.{◌≡◌, ℕ, ◌+◌, ◌<◌, List, [], ◌∷◌, ◌++◌, length, take, get_or, codes, refl, sym, ap, subst, ◌∙◌}
-use Rattle.std.proofs.lemmas.List.{take_more}
+use Rattle.std.proofs.Common.{◌≡◌, ℕ, ◌+◌, ◌<◌, List, [], ◌∷◌, ◌++◌, length, take, get_or, codes, refl, sym, ap, subst, ◌∙◌, append-nil}
+use Rattle.std.proofs.lemmas.List.{append_assoc, take_more}
 use Rattle.model.specs.Model.{Model}
 use Rattle.model.specs.Tries.{Try}
 use Rattle.model.specs.Calls.{Call, Makes}
@@ -47,4 +47,26 @@ module _ (start now next : Session) (loaded : ℕ) (calls : List CaseCall) (item
           subst (λ ds. MakesItems (given_of start) loaded m ds more y.0) (sym cs) (subst (λ ws. MakesItems (given_of start) loaded m (take i calls ++ c ∷ []) ws y.0) (sym e) all),
           y.2,
         );
+  }
+
+-- The same, where the items stand behind what was written before.
+pub record Written (before after : List ℕ) (start now : Session) (loaded : ℕ) (calls : List CaseCall) (i : ℕ) : Type 0 where
+  pub items : List ℕ
+  pub behind : after ≡ before ++ items
+  pub going : Going start now loaded calls items i
+
+pub none_written : (before : List ℕ) (s : Session) (loaded : ℕ) (calls : List CaseCall) → Written before before s s loaded calls 0
+none_written before s loaded calls = record { items = []; behind = sym (append-nil before); going = none_made s loaded calls }
+
+module _ (before after later : List ℕ) (start now next : Session) (loaded : ℕ) (calls : List CaseCall) (item : List ℕ) (i : ℕ) (c : CaseCall) where
+  pub call_written : Written before after start now loaded calls i → i < length calls → c ≡ get_or calls i c
+      → MakesOne loaded c now next item → given_of next ≡ given_of now → later ≡ after ++ codes "; " ++ item
+      → Written before later start next loaded calls (i + 1)
+  call_written w low is_c made same e = record {
+    items = w.items ++ (codes "; " ++ item);
+    behind = e
+        ∙ ap (λ xs. xs ++ codes "; " ++ item) w.behind
+        ∙ append_assoc (before ++ w.items) (codes "; ") item
+        ∙ append_assoc before w.items (codes "; " ++ item);
+    going = call_made start now next loaded calls w.items item (w.items ++ (codes "; " ++ item)) i c w.going low is_c made same refl;
   }

@@ -80,3 +80,7 @@ MakesOne loaded c old new item = Follows (λ m n. MakesItem (given_of old) loade
 
 abbrev pub MakesEach : List CaseCall → (old new : Session) → (items : List ℕ) → Type 0
 MakesEach cs old new items = Follows (λ m n. MakesItems (given_of old) (counts_of old.stores).nodes m cs items n) old new
+
+-- Their items are written behind what stood there.
+abbrev pub AppendsEach : List CaseCall → (old new : Session) → (before after : List ℕ) → Type 0
+AppendsEach cs old new before after = (items : List ℕ) × (after ≡ before ++ items) × MakesEach cs old new items

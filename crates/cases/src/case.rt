@@ -1,8 +1,8 @@
 // A case: a file, stores to load it into, and the calls of a session on it.
-ghost use Rattle.std.specs.Prelude.{◌≡◌, IfOk, string_bytes};
+ghost use Rattle.std.specs.Prelude.{◌≡◌, IfOk, OnOk, string_bytes};
 ghost use Rattle.session.specs.Following.{given_of};
 ghost use Rattle.cases.specs.Cases.{AsksCase, RoomsSaid, RunOf, SwitchSaid};
-ghost use Rattle.cases.specs.Items.{MakesEach};
+ghost use Rattle.cases.specs.Items.{AppendsEach};
 
 use super::call::CaseCall;
 use super::memory::Memory;
@@ -28,6 +28,10 @@ impl Case {
     pub fn parse(heap: Global, line: &[u8]) -> Result<Case, Flaw>
         ensures { IfOk result (λ case. AsksCase line.now case.file.items case.rooms case.support) }
     {
+        // Most lines that are no case are known by their front, before any memory is asked for.
+        if !line.starts_with(b"case ") {
+            return Err(Flaw::Malformed);
+        }
         let words = words_of(heap, line)?;
         let ["case", file, rooms, templates, power, calls @ ..] = words.as_slice() else {
             return Err(Flaw::Malformed);
@@ -54,25 +58,31 @@ impl Case {
         match load(self.file.as_slice(), memory.stores()) {
             Ok(loaded) => {
                 let mut session = Session::open(loaded, self.support);
-                let items = self.make_calls(heap, &mut session)?;
-                format!(in heap; "loaded{items}; {}", End::of(&session.end()))
+                let mut text = String::from_str(heap, "loaded")?;
+                self.make_calls(heap, &mut session, &mut text)?;
+                text.push_str(format!(in heap; "; {}", End::of(&session.end()))?.as_str())?;
+                Ok(text)
             }
             Err(refused) => format!(in heap; "{}", Answer::Refused(refused.fault)),
         }
     }
 
-    // Makes the calls in a session that is just open, and says what came of each, behind a semicolon.
-    fn make_calls(&self, heap: Global, session: &mut Session<'_>) -> Result<String, AllocError>
-        ensures made { IfOk result (λ items. MakesEach self.now.calls.items session.old session.new (string_bytes items)) }
+    // Makes the calls in a session that is just open, and appends what came of each, behind a semicolon.
+    fn make_calls(
+        &self,
+        heap: Global,
+        session: &mut Session<'_>,
+        text: &mut String,
+    ) -> Result<(), AllocError>
+        ensures made { OnOk result (AppendsEach self.now.calls.items session.old session.new (string_bytes text.old) (string_bytes text.new)) }
         ensures given { given_of session.new ≡ given_of session.old }
     {
         let loaded = session.stores().counts().nodes;
-        let mut items = String::new(heap);
         for call in &self.calls {
-            items.push_str("; ")?;
-            items.push_str(call.make(heap, session, loaded)?.as_str())?;
+            text.push_str("; ")?;
+            text.push_str(call.make(heap, session, loaded)?.as_str())?;
         }
-        Ok(items)
+        Ok(())
     }
 }
 

@@ -37,11 +37,32 @@ impl<'s, 'a> Shown<'s, 'a> {
 
 impl fmt::Display for Shown<'_, '_> {
     fn fmt<W: fmt::Write>(&self, f: &mut fmt::Formatter<W>) -> fmt::Result {
-        match Place::of(self.stores, self.root) {
-            Some(root) => root.show(f, self.stores.counts().nodes),
-            None => Ok(()),
+        show(f, self.stores, self.root, self.stores.counts().nodes)
+    }
+}
+
+// Writes the tree of the node n: what stands before its children, the children, and what stands behind them. No path in
+// the tree has more nodes than there are, so that `fuel` lasts. What stands before a child depends on its number. The
+// node is looked up here and not handed down, which would take half as much stack again.
+fn show<W: fmt::Write>(
+    f: &mut fmt::Formatter<W>,
+    stores: &Stores<'_>,
+    n: u32,
+    fuel: usize,
+) -> fmt::Result {
+    let Some(place) = Place::of(stores, n) else {
+        return Ok(());
+    };
+    place.open(f)?;
+    if fuel > 0 {
+        for k in 0..place.node.child_count() {
+            if let Some(child) = place.child(k) {
+                place.separate(f, k)?;
+                show(f, stores, child, fuel - 1)?;
+            }
         }
     }
+    place.close(f)
 }
 
 // A node of a tree in stores.
@@ -60,29 +81,12 @@ impl<'s, 'a> Place<'s, 'a> {
         })
     }
 
-    // The node's child k.
-    fn child(self, k: usize) -> Option<Place<'s, 'a>> {
-        let number = match self.node.child(k)? {
-            Child::Link(number) => number,
-            Child::Entry(i) => self.stores.entries.get(i)?,
-        };
-        Place::of(self.stores, number)
-    }
-
-    // Writes the tree of the node: what stands before its children, the children, and what stands behind them. No path
-    // in the tree has more nodes than there are, so that `fuel` lasts. What stands before a child depends on its
-    // number.
-    fn show<W: fmt::Write>(self, f: &mut fmt::Formatter<W>, fuel: usize) -> fmt::Result {
-        self.open(f)?;
-        if fuel > 0 {
-            for k in 0..self.node.child_count() {
-                if let Some(child) = self.child(k) {
-                    self.separate(f, k)?;
-                    child.show(f, fuel - 1)?;
-                }
-            }
+    // The number of the node's child k.
+    fn child(self, k: usize) -> Option<u32> {
+        match self.node.child(k)? {
+            Child::Link(number) => Some(number),
+            Child::Entry(i) => self.stores.entries.get(i),
         }
-        self.close(f)
     }
 
     // Writes a leaf, or what stands before the children of any other node.

@@ -23,8 +23,13 @@ const UNANSWERED: [Answer; 1] = [Answer::Moved(Ok(()))];
 
 // Shortens the quote's payoff, and prints what it was, what is left of it, and how long a packet is with either.
 pub fn treat_quote(rt: &(impl Files + Print + AllocGlobal)) -> anyhow::Result<()> {
+    shorten_quote(rt).map_err(|error| anyhow!("{QUOTE}: {error}"))
+}
+
+// Does so, with an error that does not name the file.
+fn shorten_quote(rt: &(impl Files + Print + AllocGlobal)) -> anyhow::Result<()> {
     let heap = rt.alloc();
-    let file = fs::read(rt, QUOTE).map_err(|error| anyhow!("{QUOTE}: {error}"))?;
+    let file = fs::read(rt, QUOTE)?;
     let mut memory = Memory::for_any_file(heap)?;
     match load(file.as_slice(), memory.stores()) {
         Ok(loaded) => {

@@ -1,4 +1,4 @@
-use Rattle.cases.proofs.printing.Place.+show.Given as goal
+use Rattle.cases.proofs.printing.+show.Given as goal
 
 abbrev pub decreases-show : goal.decreases-show
 decreases-show g l = l.fuel
